@@ -1,0 +1,66 @@
+-- Places in a text: the point of an offset and the offset of a point, rows and their endings, clipping.
+use Rattle.std.specs.Prelude.{ℕ, suc, ◌+◌, ◌-◌, ◌==◌, ◌&&◌, min, List, [], ◌∷◌, length, take, count_by, slice_index, nat_lt, Bool, not, if◌then◌else◌, Option, Some, None, option_map, unwrap_or}
+use Rattle.std.specs.List.{suffix_len, slice_split, slice_index_or}
+use Rattle.std.specs.Char.Utf16.{is_high_surrogate, is_low_surrogate}
+use Rattle.points.specs.declared.point.Point.{Point}
+use Rattle.points.specs.Point.{origin}
+use Rattle.points.specs.Text.{CR, is_lf}
+
+-- the extent of a text: its line feeds, and its units behind the last of them
+abbrev pub extent : List ℕ → Point
+extent t = record { row = count_by is_lf t; column = suffix_len (λ u. not (is_lf u)) t }
+
+-- the point at an offset
+abbrev pub point_at : List ℕ → ℕ → Point
+point_at t i = extent (take i t)
+
+abbrev pub same_point : Point → Point → Bool
+same_point p q = (p.row == q.row) && (p.column == q.column)
+
+-- the point one unit behind p, where that unit is u
+abbrev pub behind : Point → ℕ → Point
+behind p u = if is_lf u then record { row = p.row + 1; column = 0 } else record { row = p.row; column = p.column + 1 }
+
+-- how far behind the point `from`, at which t stands, the point p is met
+abbrev pub offset_from : Point → List ℕ → Point → Option ℕ
+offset_from from [] p = if same_point from p then Some 0 else None
+offset_from from (u ∷ us) p = if same_point from p then Some 0 else option_map (λ i. i + 1) (offset_from (behind from u) us p)
+
+-- the offset at which the point is p, where there is one
+abbrev pub offset_of : List ℕ → Point → Option ℕ
+offset_of t p = offset_from origin t p
+
+-- the rows, without the line feeds between them
+abbrev pub rows_of : List ℕ → List (List ℕ)
+rows_of t = slice_split is_lf t
+
+-- the units of row r, a carriage return of its ending among them
+abbrev pub row_of : List ℕ → ℕ → List ℕ
+row_of t r = slice_index_or (rows_of t) r []
+
+abbrev pub ends_with_cr : List ℕ → Bool
+ends_with_cr t = slice_index t (length t - 1) == CR
+
+-- the units of row r without its ending
+abbrev pub line_of : List ℕ → ℕ → List ℕ
+line_of t r = let row = row_of t r in if nat_lt r (count_by is_lf t) && ends_with_cr row then take (length row - 1) row else row
+
+-- offset c of a line stands between the two units of a pair
+abbrev pub splits_pair : List ℕ → ℕ → Bool
+splits_pair line c = is_high_surrogate (slice_index line (c - 1)) && is_low_surrogate (slice_index line c)
+
+-- the column that a column of this line is clipped to
+abbrev pub clipped_column : List ℕ → ℕ → ℕ
+clipped_column line c = let k = min c (length line) in if splits_pair line k then k - 1 else k
+
+-- the point that p is clipped to: a point of the text, outside line endings and pairs
+abbrev pub clip : List ℕ → Point → Point
+clip t p = if nat_lt (count_by is_lf t) p.row then extent t else record { row = p.row; column = clipped_column (line_of t p.row) p.column }
+
+-- the offset that a point is clipped to
+abbrev pub clipped_offset : List ℕ → Point → ℕ
+clipped_offset t p = unwrap_or (offset_of t (clip t p)) 0
+
+-- the offsets of the clipped ends of a range
+abbrev pub span : List ℕ → Point → Point → ℕ × ℕ
+span t start end = (clipped_offset t start, clipped_offset t end)

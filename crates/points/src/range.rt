@@ -1,0 +1,12 @@
+ghost use Rattle.std.specs.Prelude.{IsTrue};
+ghost use Rattle.points.specs.Point.{point_le};
+
+use crate::point::Point;
+
+/// A stretch of a text from `start` up to `end`, which isn't before it.
+#[derive(Clone, Copy, Debug, PartialEq, Eq, Hash)]
+pub struct Range {
+    pub start: Point,
+    pub end: Point,
+    pub ghost ordered: { IsTrue (point_le start end) },
+}
