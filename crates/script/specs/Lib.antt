@@ -1,0 +1,4 @@
+pub mod Machine
+pub mod ScriptDocument
+pub mod TranscriptDocument
+pub mod Lawful

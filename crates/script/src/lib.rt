@@ -1,0 +1,18 @@
+//! Scripts and transcripts: the two documents of the program, what a plain string answers to a script,
+//! and which transcripts of a script are lawful.
+//!
+//! The meaning stands in `specs/`: the plain machine (`Machine`), the two documents as JSON values
+//! (`ScriptDocument`, `TranscriptDocument`) and what makes a transcript lawful (`Lawful`).
+#![tactic(auto)]
+
+mod command;
+mod refusal;
+mod reply;
+mod sequence;
+mod text;
+
+pub use command::{Command, Opening, Script};
+pub use refusal::{ScriptRefusal, ScriptRule};
+pub use reply::{CallRefusal, HitCounts, Reply, Transcript, TranscriptEnd};
+pub use sequence::Sequence;
+pub use text::Text;
