@@ -2,3 +2,4 @@ pub mod Machine
 pub mod ScriptDocument
 pub mod TranscriptDocument
 pub mod Lawful
+pub mod Laws

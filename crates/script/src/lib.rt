@@ -6,6 +6,7 @@
 #![tactic(auto)]
 
 mod command;
+pub mod laws;
 mod refusal;
 mod reply;
 mod sequence;
