@@ -3,7 +3,7 @@ use Rattle.std.specs.Prelude.{◌≡◌, ℕ, List, ◌++◌, take, Option, IfSo
 
 -- where the sink tells its bytes after, it told them before, and has these bytes more at their end
 abbrev pub Appends : List ℕ → Option (List ℕ) → Option (List ℕ) → Type 0
-Appends bytes before after = IfSome after (λ now. IsSomeAnd before (λ then. now ≡ then ++ bytes))
+Appends bytes before after = IfSome after (λ taken. IsSomeAnd before (λ had. taken ≡ had ++ bytes))
 
 -- the same of the first of these bytes, however many they are
 abbrev pub AppendsPrefix : List ℕ → Option (List ℕ) → Option (List ℕ) → Type 0

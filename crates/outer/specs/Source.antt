@@ -5,6 +5,10 @@ use Rattle.std.specs.Prelude.{◌≡◌, ◌↔◌, ℕ, List, [], ◌++◌, Opt
 abbrev pub Gives : List ℕ → Option (List ℕ) → Option (List ℕ) → Type 0
 Gives bytes before after = before ≡ option_map (λ rest. bytes ++ rest) after
 
--- where the bytes left are told, none came exactly where none was left
+-- where the bytes left are told, none is left
+abbrev pub IsAtEnd : Option (List ℕ) → Type 0
+IsAtEnd left = IfSome left (λ bytes. bytes ≡ [])
+
+-- where the bytes left are told, a read of n bytes gave none exactly where none was left
 abbrev pub IsEndOf : Option (List ℕ) → ℕ → Type 0
 IsEndOf left n = IfSome left (λ bytes. (n ≡ 0) ↔ (bytes ≡ []))

@@ -49,4 +49,11 @@ impl Store {
     {
         self.bytes.as_slice()
     }
+    /// Drops every byte.
+    pub(crate) fn clear(&mut self)
+        ensures taken { self.new.taken ≡ [] }
+        ensures room { self.new.room ≡ self.old.room }
+    {
+        self.bytes.clear();
+    }
 }

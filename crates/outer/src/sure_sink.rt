@@ -62,8 +62,9 @@ impl Sink for SureSink {
         ensures taken { self.new.taken ≡ within_room self.old.room self.old.taken bytes.now }
         ensures room { self.new.room ≡ self.old.room }
     {
-        if self.whole {
-            self.whole = self.store.append(bytes);
+        if self.whole && !self.store.append(bytes) {
+            self.whole = false;
+            self.store.clear();
         }
         Ok(())
     }
