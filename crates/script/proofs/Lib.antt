@@ -1,1 +1,5 @@
 pub mod PlainRuns
+pub mod Counting
+pub mod Loops
+pub mod Whole
+pub mod Documents

@@ -1,4 +1,5 @@
 pub mod Machine
 pub mod ScriptDocument
+pub mod Reading
 pub mod TranscriptDocument
 pub mod Lawful
