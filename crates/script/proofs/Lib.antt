@@ -1,2 +1,6 @@
 pub mod PlainRuns
 pub mod OneSession
+pub mod Counting
+pub mod Loops
+pub mod Whole
+pub mod Documents

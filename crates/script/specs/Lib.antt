@@ -1,5 +1,6 @@
 pub mod Machine
 pub mod ScriptDocument
+pub mod Reading
 pub mod TranscriptDocument
 pub mod Lawful
 pub mod Laws

@@ -6,14 +6,21 @@
 #![tactic(auto)]
 
 mod command;
+mod count;
 pub mod laws;
+mod limits;
+mod parts;
+mod read;
 mod refusal;
 mod reply;
 mod sequence;
 mod text;
+mod write;
 
 pub use command::{Command, Opening, Script};
+pub use read::read_script;
 pub use refusal::{ScriptRefusal, ScriptRule};
 pub use reply::{CallRefusal, HitCounts, Reply, Transcript, TranscriptEnd};
 pub use sequence::Sequence;
 pub use text::Text;
+pub use write::transcript_bytes;

@@ -1,0 +1,57 @@
+-- Reading and writing lists item by item, and counting the units of a text character by character.
+use Rattle.std.proofs.Common.{◌≡◌, ℕ, ◌+◌, ◌<◌, ◌≤◌, List, [], ◌∷◌, ◌++◌, length, map, Option, option_map, refl, sym, ap, ◌∙◌, arith, length-append}
+use Rattle.std.specs.Char.{len_utf8}
+use Rattle.std.specs.Char.Escape.{encode_utf16}
+use Rattle.std.specs.Str.{IsUtf8, chars}
+use lib.Utf8.{encode, encodes}
+use Rattle.std.proofs.lemmas.Bool.Decides.{nat_tests}
+use Rattle.std.proofs.lemmas.List.Concat.{flat_map-cons}
+use Rattle.std.proofs.lemmas.Str.{chars-nil, chars_past_char, encodes-chars, length-encode}
+use Rattle.points.specs.Text.{utf16, utf16_of}
+use Rattle.script.specs.declared.command.Command.{Command}
+use Rattle.script.specs.declared.reply.Reply.{Reply}
+use Rattle.script.specs.TranscriptDocument.{reply_value, replies_items, sessions_items}
+use Rattle.serde_json.specs.Data.{array, item}
+use Rattle.serde_json.specs.View.{items_of}
+
+-- ---- commands
+
+-- the commands that were read before, and those that are still read
+abbrev pub with_front : List Command → Option (List Command) → Option (List Command)
+with_front front read = option_map (λ cs. front ++ cs) read
+
+-- ---- replies
+
+-- the items of a list of replies are their values
+pub replies_items-map : (rs : List Reply) → replies_items rs ≡ items_of (map reply_value rs)
+replies_items-map [] = refl
+replies_items-map (r ∷ rs) = ap (item (reply_value r)) (replies_items-map rs)
+
+-- the items of a list of sessions are the lists of their replies' values
+pub sessions_items-map : (sessions : List (List Reply)) → sessions_items sessions ≡ items_of (map (λ rs. array (replies_items rs)) sessions)
+sessions_items-map [] = refl
+sessions_items-map (rs ∷ rest) = ap (item (array (replies_items rs))) (sessions_items-map rest)
+
+-- ---- units
+
+length-encode_utf16 : (c : ℕ) → length (encode_utf16 c) ≤ length (encode c)
+length-encode_utf16 c = rw length-encode (grind (arith, nat_tests))
+
+length-utf16-le : (cs : List ℕ) → length (utf16 cs) ≤ length (encodes cs)
+length-utf16-le [] = omega arith
+length-utf16-le (c ∷ cs) =
+    let parts : length (utf16 (c ∷ cs)) ≡ length (encode_utf16 c) + length (utf16 cs) = ap length (flat_map-cons encode_utf16 c cs) ∙ length-append (encode_utf16 c) (utf16 cs) in
+    omega (arith, parts, length-encode_utf16 c, length-append (encode c) (encodes cs), length-utf16-le cs)
+
+-- a text has at most as many units as bytes
+pub utf16_of_fits : (bytes : List ℕ) → IsUtf8 bytes → length (utf16_of bytes) ≤ length bytes
+utf16_of_fits bytes utf8 = omega (arith, length-utf16-le (chars bytes), ap length (encodes-chars bytes utf8))
+
+-- the units of a text are those of its first character and those of the rest
+pub utf16_of_next : (bytes rest : List ℕ) (c : ℕ) → IsUtf8 bytes → bytes ≡ encode c ++ rest → length (utf16_of bytes) ≡ length (encode_utf16 c) + length (utf16_of rest)
+utf16_of_next bytes rest c utf8 parts =
+    ap (λ cs. length (utf16 cs)) (chars_past_char bytes rest c utf8 parts) ∙ ap length (flat_map-cons encode_utf16 c (chars rest)) ∙ length-append (encode_utf16 c) (utf16_of rest)
+
+pub utf16_of_nothing : (bytes : List ℕ) → length bytes ≡ 0 → length (utf16_of bytes) ≡ 0
+utf16_of_nothing [] e = ap (λ cs. length (utf16 cs)) chars-nil
+utf16_of_nothing (b ∷ bytes) e = absurd (omega arith)

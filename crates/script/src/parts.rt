@@ -1,0 +1,127 @@
+//! The parts of a script's JSON value: its members, its strings, its whole numbers and its ranges.
+ghost use Rattle.std.specs.Prelude.{◌≡◌, ◌<◌};
+ghost use Rattle.serde_json.specs.Find.{get};
+ghost use Rattle.serde_json.specs.View.{view};
+ghost use Rattle.script.specs.ScriptDocument.{member_count, item_count, string_in, whole_of, whole_in, coordinate, point_from, range_between, range_of, range_in, max_coord};
+ghost use Rattle.script.specs.Reading.{Gives};
+ghost use Rattle.script.specs.declared.parts.Misfit.TheVariants.{NoMemory};
+
+use points::{MAX_COORD, Point, Range};
+use serde_json::Value;
+use std::alloc::{AllocError, AllocFailed};
+
+/// Why a part wasn't read.
+#[derive(Drop)]
+pub(crate) enum Misfit {
+    /// The value has another shape.
+    Shape,
+    NoMemory,
+}
+
+impl From<AllocError> for Misfit {
+    ghost from_gives = { λ _ misfit. misfit ≡ NoMemory };
+
+    fn from(_error: AllocError) -> Self {
+        Misfit::NoMemory
+    }
+}
+
+impl<T: Drop> From<AllocFailed<T>> for Misfit {
+    ghost from_gives = { λ _ misfit. misfit ≡ NoMemory };
+
+    fn from(_failed: AllocFailed<T>) -> Self {
+        Misfit::NoMemory
+    }
+}
+
+// How many members an object has; nothing else has any.
+pub(crate) fn member_count(value: &Value) -> usize
+    ensures { result ≡ member_count (view value.now) }
+{
+    match value.as_object() {
+        Some(members) => members.len(),
+        None => 0,
+    }
+}
+
+// How many items a list has; nothing else has any.
+pub(crate) fn item_count(value: &Value) -> usize
+    ensures { result ≡ item_count (view value.now) }
+{
+    match value.as_array() {
+        Some(items) => items.as_slice().len(),
+        None => 0,
+    }
+}
+
+pub(crate) fn member<'v>(value: &'v Value, key: &str) -> Result<&'v Value, Misfit>
+    ensures { Gives (λ v. view v.now) result (get key.now (view value.now)) }
+{
+    value.get(key).ok_or(Misfit::Shape)
+}
+
+pub(crate) fn string_in<'v>(value: &'v Value, key: &str) -> Result<&'v str, Misfit>
+    ensures { Gives (λ s. s.now) result (string_in key.now (view value.now)) }
+{
+    member(value, key)?.as_str().ok_or(Misfit::Shape)
+}
+
+// The whole number that the value is, where that is at most `limit`.
+fn whole_of(limit: u32, value: &Value) -> Result<u32, Misfit>
+    ensures { Gives (λ n. n) result (whole_of limit (view value.now)) }
+{
+    match value.as_u64() {
+        Some(n) if n <= limit as u64 => Ok(n as u32),
+        _ => Err(Misfit::Shape),
+    }
+}
+
+pub(crate) fn whole_in(limit: u32, value: &Value, key: &str) -> Result<u32, Misfit>
+    ensures { Gives (λ n. n) result (whole_in limit key.now (view value.now)) }
+{
+    whole_of(limit, member(value, key)?)
+}
+
+fn coordinate(value: &Value, index: usize) -> Result<u32, Misfit>
+    ensures { Gives (λ n. n) result (coordinate (view value.now) index) }
+{
+    whole_of(MAX_COORD, value.get(index).ok_or(Misfit::Shape)?)
+}
+
+fn point_from(value: &Value, index: usize) -> Result<Point, Misfit>
+    requires { index < 4 }
+    ensures { Gives (λ p. p) result (point_from (view value.now) index) }
+{
+    let row = coordinate(value, index)?;
+    let column = coordinate(value, index + 1)?;
+    Ok(Point { row, column })
+}
+
+fn range_between(start: Point, end: Point) -> Result<Range, Misfit>
+    ensures { Gives (λ r. r) result (range_between start end) }
+{
+    if start <= end {
+        Ok(Range { start, end })
+    } else {
+        Err(Misfit::Shape)
+    }
+}
+
+// A range: a list of four whole numbers.
+#[tactic(auto, unfolding(crate::specs::ScriptDocument::range_of))]
+fn range_of(value: &Value) -> Result<Range, Misfit>
+    ensures { Gives (λ r. r) result (range_of (view value.now)) }
+{
+    if item_count(value) != 4 {
+        return Err(Misfit::Shape);
+    }
+    let start = point_from(value, 0)?;
+    let end = point_from(value, 2)?;
+    range_between(start, end)
+}
+
+pub(crate) fn range_in(value: &Value) -> Result<Range, Misfit>
+    ensures { Gives (λ r. r) result (range_in (view value.now)) }
+{
+    range_of(member(value, "range")?)
+}
