@@ -2,17 +2,13 @@
 use Rattle.std.specs.Prelude.{◌≡◌, ◌↔◌, ℕ, ◌+◌, ◌^◌, ◌≤◌, List, ◌++◌, length, Option, Result, Ok, Err, IfOk}
 use Rattle.std.specs.Prelude.{Vec, [], IfSome}
 use Rattle.std.specs.declared.alloc.Global.{Global}
-use Rattle.outer.specs.Source.{Gives, IsEndOf}
+use Rattle.outer.specs.Source.{Gives, IsAtEnd, IsEndOf}
 use Rattle.buffer_cli.specs.declared.input.InputFault.{InputFault}
 use Rattle.buffer_cli.specs.declared.input.InputFault.TheVariants.{Failed, TooLong, NoMemory}
 
 -- the most bytes of an input
 abbrev pub max_input : ℕ
 max_input = 2 ^ 26
-
--- where the bytes left are told, none is left
-abbrev pub IsAtEnd : Option (List ℕ) → Type 0
-IsAtEnd left = IfSome left (λ bytes. bytes ≡ [])
 
 -- These bytes were read: to the end where they are answered, else up to the byte behind the limit where there were too many.
 abbrev pub ReadsAs : Result (Vec ℕ Global) InputFault → List ℕ → Option (List ℕ) → Type 0

@@ -12,6 +12,8 @@ pub(crate) fn write_all<O: Sink>(output: &mut O, bytes: &[u8]) -> Result<(), Fai
     ensures prefix { OnErr result (AppendsPrefix bytes.now (O.taken output.old) (O.taken output.new)) }
 {
     output.put(bytes)?;
-    output.flush()?;
-    Ok(())
+    match output.flush() {
+        Ok(()) => Ok(()),
+        Err(failed) => Err(failed),
+    }
 }

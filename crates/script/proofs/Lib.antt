@@ -4,3 +4,4 @@ pub mod Counting
 pub mod Loops
 pub mod Whole
 pub mod Documents
+pub mod LimitLemmas
