@@ -1,0 +1,5 @@
+pub mod ExtentLemmas
+pub mod PointLemmas
+pub mod OffsetLemmas
+pub mod RowLemmas
+pub mod ClipLemmas
