@@ -5,11 +5,11 @@ use Rattle.std.proofs.lemmas.Bool.Decides.{nat_tests}
 use Rattle.points.specs.declared.point.Point.{Point}
 use Rattle.points.specs.Point.{point_le}
 use Rattle.points.specs.Text.{is_lf}
-use Rattle.points.specs.Place.{extent, point_at, offset_of, row_of, line_of, ends_with_cr, splits_pair, clipped_column, clip, clipped_offset}
+use Rattle.points.specs.Place.{extent, point_at, offset_of, row_of, row_start, line_of, ends_with_cr, splits_pair, clipped_column, clip, clipped_offset}
 use Rattle.points.proofs.ExtentLemmas.{feeds}
 use Rattle.points.proofs.PointLemmas.{at_row_column, point_le_cases}
 use Rattle.points.proofs.OffsetLemmas.{offset_of-at, offset_of-nowhere, point_at_le}
-use Rattle.points.proofs.RowLemmas.{row_start, row_start_mono, row_start_next, row_end_last, IsRowAt, row_is, IsInRow, in_row}
+use Rattle.points.proofs.RowLemmas.{row_start_mono, row_start_next, row_end_last, IsRowAt, row_is, IsInRow, in_row}
 use Rattle.std.proofs.lemmas.List.{take_all}
 
 -- the offset of a row's point

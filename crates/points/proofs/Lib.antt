@@ -3,3 +3,4 @@ pub mod PointLemmas
 pub mod OffsetLemmas
 pub mod RowLemmas
 pub mod ClipLemmas
+pub mod TextLemmas

@@ -8,17 +8,13 @@ use Rattle.std.proofs.lemmas.Bool.{cases_Bool}
 use Rattle.std.proofs.lemmas.Bool.Decides.{nat_tests}
 use Rattle.points.specs.declared.point.Point.{Point}
 use Rattle.points.specs.Text.{is_lf}
-use Rattle.points.specs.Place.{extent, point_at, rows_of, row_of}
+use Rattle.points.specs.Place.{extent, point_at, rows_of, row_of, row_start}
 use Rattle.points.proofs.ExtentLemmas.{feeds, behind, feeds-cons, behind-append, extent-append}
 use Rattle.points.proofs.PointLemmas.{at_row_column, same_coordinates}
 
 -- how far a row and its line feed reach
 abbrev pub row_size : List ℕ → ℕ
 row_size row = length row + 1
-
--- the offset at which row r starts
-abbrev pub row_start : List ℕ → ℕ → ℕ
-row_start t r = sum_by row_size (take r (rows_of t))
 
 -- the rows of a text by its first unit
 rows_lf : (u : ℕ) (us : List ℕ) → is_lf u ≡ true → rows_of (u ∷ us) ≡ [] ∷ rows_of us

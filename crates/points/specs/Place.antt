@@ -1,5 +1,5 @@
 -- Places in a text: the point of an offset and the offset of a point, rows and their endings, clipping.
-use Rattle.std.specs.Prelude.{ℕ, ◌+◌, ◌-◌, ◌==◌, ◌&&◌, min, List, [], ◌∷◌, length, take, count_by, find, slice_index, nat_lt, Bool, not, if◌then◌else◌, Option, unwrap_or}
+use Rattle.std.specs.Prelude.{ℕ, ◌+◌, ◌-◌, ◌==◌, ◌&&◌, min, List, [], ◌∷◌, length, take, count_by, sum_by, find, slice_index, nat_lt, Bool, not, if◌then◌else◌, Option, unwrap_or}
 use Rattle.std.specs.List.{suffix_len, slice_split, slice_index_or, range_with_len}
 use Rattle.std.specs.Char.Utf16.{is_high_surrogate, is_low_surrogate}
 use Rattle.points.specs.declared.point.Point.{Point}
@@ -28,6 +28,11 @@ rows_of t = slice_split is_lf t
 abbrev pub row_of : List ℕ → ℕ → List ℕ
 row_of t r = slice_index_or (rows_of t) r []
 
+-- the offset at which row r starts: each row before it reaches over its units and its line feed
+abbrev pub row_start : List ℕ → ℕ → ℕ
+row_start t r = sum_by (λ row. length row + 1) (take r (rows_of t))
+
+-- the text's last unit is a carriage return
 abbrev pub ends_with_cr : List ℕ → Bool
 ends_with_cr t = slice_index t (length t - 1) == CR
 
