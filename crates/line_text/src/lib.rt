@@ -5,4 +5,5 @@
 //! Points are clipped to the text before it is edited: outside line endings and surrogate pairs.
 #![tactic(auto)]
 
+mod encode;
 mod rows;
