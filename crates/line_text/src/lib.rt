@@ -5,5 +5,6 @@
 //! Points are clipped to the text before it is edited: outside line endings and surrogate pairs.
 #![tactic(auto)]
 
+mod edit;
 mod encode;
 mod rows;
