@@ -7,4 +7,9 @@
 
 mod edit;
 mod encode;
+mod refusal;
 mod rows;
+mod text;
+
+pub use refusal::TextRefusal;
+pub use text::{LineText, MAX_UNITS, Replaced};
