@@ -1,9 +1,8 @@
 -- Places in a text: the point of an offset and the offset of a point, rows and their endings, clipping.
-use Rattle.std.specs.Prelude.{ℕ, suc, ◌+◌, ◌-◌, ◌==◌, ◌&&◌, min, List, [], ◌∷◌, length, take, count_by, slice_index, nat_lt, Bool, not, if◌then◌else◌, Option, Some, None, option_map, unwrap_or}
-use Rattle.std.specs.List.{suffix_len, slice_split, slice_index_or}
+use Rattle.std.specs.Prelude.{ℕ, ◌+◌, ◌-◌, ◌==◌, ◌&&◌, min, List, [], ◌∷◌, length, take, count_by, sum_by, find, slice_index, nat_lt, Bool, not, if◌then◌else◌, Option, unwrap_or}
+use Rattle.std.specs.List.{suffix_len, slice_split, slice_index_or, range_with_len}
 use Rattle.std.specs.Char.Utf16.{is_high_surrogate, is_low_surrogate}
 use Rattle.points.specs.declared.point.Point.{Point}
-use Rattle.points.specs.Point.{origin}
 use Rattle.points.specs.Text.{CR, is_lf}
 
 -- the extent of a text: its line feeds, and its units behind the last of them
@@ -17,18 +16,9 @@ point_at t i = extent (take i t)
 abbrev pub same_point : Point → Point → Bool
 same_point p q = (p.row == q.row) && (p.column == q.column)
 
--- the point one unit behind p, where that unit is u
-abbrev pub behind : Point → ℕ → Point
-behind p u = if is_lf u then record { row = p.row + 1; column = 0 } else record { row = p.row; column = p.column + 1 }
-
--- how far behind the point `from`, at which t stands, the point p is met
-abbrev pub offset_from : Point → List ℕ → Point → Option ℕ
-offset_from from [] p = if same_point from p then Some 0 else None
-offset_from from (u ∷ us) p = if same_point from p then Some 0 else option_map (λ i. i + 1) (offset_from (behind from u) us p)
-
 -- the offset at which the point is p, where there is one
 abbrev pub offset_of : List ℕ → Point → Option ℕ
-offset_of t p = offset_from origin t p
+offset_of t p = find (λ i. same_point (point_at t i) p) (range_with_len 0 (length t + 1))
 
 -- the rows, without the line feeds between them
 abbrev pub rows_of : List ℕ → List (List ℕ)
@@ -38,6 +28,11 @@ rows_of t = slice_split is_lf t
 abbrev pub row_of : List ℕ → ℕ → List ℕ
 row_of t r = slice_index_or (rows_of t) r []
 
+-- the offset at which row r starts: each row before it reaches over its units and its line feed
+abbrev pub row_start : List ℕ → ℕ → ℕ
+row_start t r = sum_by (λ row. length row + 1) (take r (rows_of t))
+
+-- the text's last unit is a carriage return
 abbrev pub ends_with_cr : List ℕ → Bool
 ends_with_cr t = slice_index t (length t - 1) == CR
 

@@ -1,4 +1,4 @@
-ghost use Rattle.std.specs.Prelude.{IsTrue};
+ghost use Rattle.std.specs.Prelude.{◌≡◌, IsTrue};
 ghost use Rattle.points.specs.Point.{point_le};
 
 use crate::point::Point;
@@ -9,4 +9,15 @@ pub struct Range {
     pub start: Point,
     pub end: Point,
     pub ghost ordered: { IsTrue (point_le start end) },
+}
+
+impl Range {
+    /// The range from `start` up to `end`. `start <= end` is the test for its condition.
+    pub fn new(start: Point, end: Point) -> Self
+        requires { IsTrue (point_le start end) }
+        ensures start { result.start ≡ start }
+        ensures end { result.end ≡ end }
+    {
+        Range { start, end }
+    }
 }

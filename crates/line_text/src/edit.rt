@@ -1,0 +1,152 @@
+//! One replacement, made in place: the tail moves over the gap that opens or closes, the new units
+//! are written into the gap, and only the starts behind the first edited row are mended.
+//!
+//! All memory is taken before anything is written, so a refusal leaves the text as it was.
+ghost use Rattle.std.specs.Prelude.{◌≡◌, ℕ, ◌+◌, ◌-◌, ◌<◌, ◌≤◌, ◌++◌, OnOk, OnErr, length, take, drop, map, ◌^◌, count_by, vec_len, vec_capacity};
+ghost use Rattle.points.specs.Text.{is_lf, replaced, utf16_of};
+ghost use Rattle.line_text.specs.Size.{size_of};
+ghost use Rattle.line_text.specs.Starts.{starts_from, starts_of, CanMove};
+
+use points::NoMemory;
+
+use crate::encode::{Size, write_units};
+use crate::rows::Rows;
+
+/// Replaces the units from `from` up to `to` by those of `text`, and mends the starts.
+pub(crate) fn replace_units(
+    units: &mut Vec<u16>,
+    starts: &mut Vec<u32>,
+    from: usize,
+    to: usize,
+    text: &str,
+    size: Size,
+) -> Result<(), NoMemory>
+    requires kept { starts.old.items ≡ starts_of units.old.items }
+    requires short { vec_len units.old ≤ 2 ^ 24 }
+    requires order { from ≤ to }
+    requires within { to ≤ vec_len units.old }
+    requires sized { size ≡ size_of (utf16_of text.now) }
+    requires fits { vec_len units.old + size.units ≤ 2 ^ 24 + (to - from) }
+    ensures ok { OnOk result (units.new.items ≡ replaced units.old.items from to (utf16_of text.now)) }
+    ensures ok_starts { OnOk result (starts.new.items ≡ starts_of units.new.items) }
+    ensures err { OnErr result (units.new.items ≡ units.old.items) }
+    ensures err_starts { OnErr result (starts.new.items ≡ starts.old.items) }
+{
+    let (first, last) = rows_between(units, starts, from, to);
+    make_room(units, size.units, to - from)?;
+    make_room(starts, size.feeds, last - first)?;
+    edit_units(units, from, to, text, size.units);
+    let written = &units.as_slice()[from..from + size.units];
+    edit_starts(starts, first, last, size.feeds, written, from as u32, to as u32);
+    Ok(())
+}
+
+// The rows in which the offsets `from` and `to` lie.
+fn rows_between(units: &Vec<u16>, starts: &Vec<u32>, from: usize, to: usize) -> (usize, usize)
+    requires kept { starts.now.items ≡ starts_of units.now.items }
+    requires short { vec_len units.now ≤ 2 ^ 24 }
+    requires order { from ≤ to }
+    requires within { to ≤ vec_len units.now }
+    ensures first { result.0 ≡ count_by is_lf (take from units.now.items) }
+    ensures last { result.1 ≡ count_by is_lf (take to units.now.items) }
+    ensures order { result.0 ≤ result.1 }
+    ensures within { result.1 ≤ vec_len starts.now }
+{
+    let rows = Rows {
+        units: units.as_slice(),
+        starts: starts.as_slice(),
+    };
+    (rows.row_at(from), rows.row_at(to))
+}
+
+// Takes the memory for a gap of `len` places where `removed` items stand.
+fn make_room<T>(items: &mut Vec<T>, len: usize, removed: usize) -> Result<(), NoMemory>
+    requires { removed ≤ vec_len items.old }
+    ensures items { items.new.items ≡ items.old.items }
+    ensures ok { OnOk result (vec_len items.new + len ≤ vec_capacity items.new + removed) }
+{
+    items.reserve(len.saturating_sub(removed))?;
+    Ok(())
+}
+
+// Writes the units of `text` in place of those from `from` up to `to`.
+fn edit_units(units: &mut Vec<u16>, from: usize, to: usize, text: &str, len: usize)
+    requires order { from ≤ to }
+    requires within { to ≤ vec_len units.old }
+    requires sized { len ≡ length (utf16_of text.now) }
+    requires room { vec_len units.old + len ≤ vec_capacity units.old + (to - from) }
+    ensures { units.new.items ≡ replaced units.old.items from to (utf16_of text.now) }
+{
+    open_gap(units, from, to, len, 0);
+    write_units(&mut units[from..from + len], text);
+}
+
+// Writes the starts that the units `written` at offset `from` make in place of those from the
+// place `first` up to the place `last`, and moves the later ones, which stood behind offset `to`.
+fn edit_starts(
+    starts: &mut Vec<u32>,
+    first: usize,
+    last: usize,
+    len: usize,
+    written: &[u16],
+    from: u32,
+    to: u32,
+)
+    requires order { first ≤ last }
+    requires within { last ≤ vec_len starts.old }
+    requires sized { len ≡ count_by is_lf written.now }
+    requires room { vec_len starts.old + len ≤ vec_capacity starts.old + (last - first) }
+    requires small { from + length written.now < 2 ^ 32 }
+    requires moves { CanMove to (from + length written.now) (drop last starts.old.items) }
+    ensures { starts.new.items ≡ take first starts.old.items ++ starts_from from written.now
+        ++ map (λ s. s - to + (from + length written.now)) (drop last starts.old.items) }
+{
+    open_gap(starts, first, last, len, 0);
+    write_starts(&mut starts[first..first + len], written, from);
+    move_starts(&mut starts[first + len..], to, from + written.len() as u32);
+}
+
+/// Makes the items from `from` up to `to` into a gap of `len` places, whose content is left open.
+/// There is room for it already.
+fn open_gap<T: Copy>(items: &mut Vec<T>, from: usize, to: usize, len: usize, filler: T)
+    requires order { from ≤ to }
+    requires within { to ≤ vec_len items.old }
+    requires room { vec_len items.old + len ≤ vec_capacity items.old + (to - from) }
+    ensures front { take from items.new.items ≡ take from items.old.items }
+    ensures back { drop (from + len) items.new.items ≡ drop to items.old.items }
+    ensures len { vec_len items.new + (to - from) ≡ vec_len items.old + len }
+{
+    let end = items.len();
+    if len > to - from {
+        let _ = items.resize(end + (len - (to - from)), filler);
+    }
+    items.copy_within(to..end, from + len);
+    items.truncate(end - (to - from) + len);
+}
+
+/// Writes the starts behind the line feeds of `units`, which stand at offset `base`.
+fn write_starts(into: &mut [u32], units: &[u16], base: u32)
+    requires fits { length into.old ≡ count_by is_lf units.now }
+    requires small { base + length units.now < 2 ^ 32 }
+    ensures { into.new ≡ starts_from base units.now }
+{
+    let mut at = 0;
+    let mut behind = base;
+    for unit in units {
+        behind += 1;
+        if *unit == 10 {
+            into[at] = behind;
+            at += 1;
+        }
+    }
+}
+
+/// Moves starts that stood behind offset `from` so that they stand as far behind `to`.
+fn move_starts(starts: &mut [u32], from: u32, to: u32)
+    requires { CanMove from to starts.old }
+    ensures { starts.new ≡ map (λ s. s - from + to) starts.old }
+{
+    for start in starts.iter_mut() {
+        *start = *start - from + to;
+    }
+}

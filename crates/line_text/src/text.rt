@@ -1,0 +1,147 @@
+ghost use Rattle.std.specs.Prelude.{◌≡◌, ℕ, ◌+◌, ◌<◌, ◌≤◌, ◌↔◌, ◌^◌, List, length, slice_range, Option, IfOk, OnOk, OnErr};
+ghost use Rattle.points.specs.Text.{utf16_of, replaced};
+ghost use Rattle.points.specs.Place.{extent, point_at, offset_of, clip, clipped_offset};
+
+use std::alloc::Global;
+use std::marker::Model;
+
+use points::{Point, Range};
+
+use crate::edit::replace_units;
+use crate::encode::size_within;
+use crate::refusal::TextRefusal;
+use crate::rows::Rows;
+
+/// The most units that a text may have: 2^24.
+pub const MAX_UNITS: usize = 1 << 24;
+
+/// A text: a list of at most [`MAX_UNITS`] UTF-16 units, with the starts of its rows.
+#[derive(Debug, Drop)]
+pub struct LineText {
+    units: Vec<u16>,
+    // Where each row but the first starts.
+    starts: Vec<u32>,
+}
+
+impl Model for LineText {
+    ghost use Rattle.std.specs.Prelude.{◌≡◌, ◌≤◌, ◌^◌, ℕ, List, length};
+    ghost use Rattle.line_text.specs.Starts.{starts_of};
+
+    ghost Value = { List ℕ };
+
+    ghost view = { λ t. t.units.items };
+
+    ghost invariant = { λ t. (t.starts.items ≡ starts_of t.units.items) × (length t.units.items ≤ 2 ^ 24) };
+}
+
+/// Where a replacement was made: the clipped ends of its range in the text before it, and the end
+/// of the new units in the text after it, which start where the range did.
+#[derive(Clone, Copy, Debug, PartialEq, Eq, Hash)]
+pub struct Replaced {
+    pub from: Point,
+    pub to: Point,
+    pub end: Point,
+}
+
+impl LineText {
+    /// The UTF-16 encoding of `text`.
+    pub fn from_str(alloc: Global, text: &str) -> Result<Self, TextRefusal>
+        ensures ok { IfOk result (λ made. made ≡ utf16_of text.now) }
+        ensures too_long { (result ≡ Err TextRefusal.TooLong) ↔ (2 ^ 24 < length (utf16_of text.now)) }
+    {
+        let Some(size) = size_within(text, MAX_UNITS) else {
+            return Err(TextRefusal::TooLong);
+        };
+        let mut units = Vec::new(alloc);
+        let mut starts = Vec::new(alloc);
+        replace_units(&mut units, &mut starts, 0, 0, text, size)?;
+        Ok(LineText { units, starts })
+    }
+
+    /// How many units there are, at most [`MAX_UNITS`].
+    pub fn len(&self) -> usize
+        ensures value { result ≡ length self.now }
+        ensures short { result ≤ 2 ^ 24 }
+    {
+        self.rows_kept().units.len()
+    }
+
+    /// The end of the text.
+    pub fn extent(&self) -> Point
+        ensures { result ≡ extent self.now }
+    {
+        self.rows_kept().extent()
+    }
+
+    /// The point at an offset.
+    pub fn point_at(&self, offset: usize) -> Point
+        requires { offset ≤ length self.now }
+        ensures { result ≡ point_at self.now offset }
+    {
+        self.rows_kept().point_at(offset)
+    }
+
+    /// The offset at which the point is `point`, where there is one.
+    pub fn offset_of(&self, point: Point) -> Option<usize>
+        ensures { result ≡ offset_of self.now point }
+    {
+        self.rows_kept().offset_of(point)
+    }
+
+    /// The point that `point` is clipped to. A row past the last goes to the end of the text; a
+    /// column past the row's units without their ending goes to their number; a column that then
+    /// stands between the two units of a surrogate pair goes back by one.
+    pub fn clip(&self, point: Point) -> Point
+        ensures { result ≡ clip self.now point }
+    {
+        self.rows_kept().clip(point)
+    }
+
+    /// The units from one offset up to another, lent.
+    pub fn slice(&self, from: usize, to: usize) -> &[u16]
+        requires order { from ≤ to }
+        requires within { to ≤ length self.now }
+        ensures { result.now ≡ slice_range self.now from to }
+    {
+        &self.rows_kept().units[from..to]
+    }
+
+    /// Replaces the units between the clipped ends of `range` by those of `text`.
+    pub fn replace(&mut self, range: Range, text: &str) -> Result<Replaced, TextRefusal>
+        ensures ok { OnOk result (self.new ≡ replaced self.old (clipped_offset self.old range.start)
+            (clipped_offset self.old range.end) (utf16_of text.now)) }
+        ensures from { IfOk result (λ at. at.from ≡ clip self.old range.start) }
+        ensures to { IfOk result (λ at. at.to ≡ clip self.old range.end) }
+        ensures end { IfOk result (λ at. at.end ≡ point_at self.new
+            (clipped_offset self.old range.start + length (utf16_of text.now))) }
+        ensures too_long { (result ≡ Err TextRefusal.TooLong) ↔ (2 ^ 24 < length (replaced self.old
+            (clipped_offset self.old range.start) (clipped_offset self.old range.end) (utf16_of text.now))) }
+        ensures err { OnErr result (self.new ≡ self.old) }
+    {
+        let rows = self.rows_kept();
+        let from = rows.clipped_offset(range.start);
+        let to = rows.clipped_offset(range.end);
+        let from_point = rows.point_at(from);
+        let to_point = rows.point_at(to);
+        let room = MAX_UNITS - (rows.units.len() - (to - from));
+        let Some(size) = size_within(text, room) else {
+            return Err(TextRefusal::TooLong);
+        };
+        replace_units(&mut self.units, &mut self.starts, from, to, text, size)?;
+        Ok(Replaced {
+            from: from_point,
+            to: to_point,
+            end: self.point_at(from + size.units),
+        })
+    }
+
+    // The units and the starts of rows, for a look-up.
+    fn rows_kept(&self) -> Rows<'_>
+        ensures { result.units.now ≡ self.now }
+    {
+        Rows {
+            units: self.units.as_slice(),
+            starts: self.starts.as_slice(),
+        }
+    }
+}

@@ -1,0 +1,6 @@
+pub mod ExtentLemmas
+pub mod PointLemmas
+pub mod OffsetLemmas
+pub mod RowLemmas
+pub mod ClipLemmas
+pub mod TextLemmas
