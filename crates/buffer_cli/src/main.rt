@@ -1,7 +1,46 @@
-//! The program: it runs a script from standard input and writes its transcript to standard output.
+//! The program: it runs a script from standard input, and writes its transcript to standard output.
+//!
+//! A run goes through these modules: `input` reads the script's bytes, `answer` turns them into those
+//! of the transcript, with `document` as the text that the commands edit, and `output` writes them.
+//! `run` joins them, and its contract says what the program does.
 #![tactic(auto)]
 
+mod adapters;
+mod answer;
+//mod document;
 mod input;
 mod output;
+mod run;
+mod status;
+#[cfg(test)]
+mod tests;
 
-fn main() {}
+pub use run::run_script;
+pub use status::Status;
+
+use adapters::{Reading, Writing};
+use std::env;
+use std::io;
+use std::process::ExitCode;
+
+fn main(rt: HostRuntime) -> ExitCode {
+    let status = run_program(&rt);
+    if let Some(line) = status.fault_line() {
+        let _ = rt.eprintln(line);
+    }
+    ExitCode::from(status.code())
+}
+
+fn run_program(rt: &HostRuntime) -> Status {
+    let Ok(mut args) = env::args(rt) else {
+        return Status::Usage;
+    };
+    let alloc = rt.alloc();
+    let _program = args.next();
+    let Ok(words) = args.collect::<Vec<String>>(alloc) else {
+        return Status::NoMemory;
+    };
+    let mut input = Reading::new(rt.reader());
+    let mut output = Writing::new(io::writer(rt));
+    run_script(alloc, words.as_slice(), &mut input, &mut output)
+}

@@ -1,0 +1,77 @@
+ghost use Rattle.std.specs.Prelude.{◌≡◌, ◌⊎◌, ◌↔◌, ℕ, ◌≤◌, List, true, false, IfSome};
+ghost use Rattle.outer.specs.Count.{Rose};
+ghost use Rattle.outer.specs.Source.{Gives};
+ghost use Rattle.buffer_cli.specs.Run.{is_run_line, Explains, expected};
+
+use outer::{Sink, Source};
+use script::ScriptRefusal;
+use std::alloc::Global;
+
+use crate::answer::answer;
+use crate::input::{InputFault, read_to_end};
+use crate::output::write_all;
+use crate::status::Status;
+
+/// Runs the script that the input holds, and writes its transcript to the output.
+/// The words are those behind the program's name.
+pub fn run_script<I: Source, O: Sink>(
+    alloc: Global,
+    words: &[String],
+    input: &mut I,
+    output: &mut O,
+) -> Status
+    // Each status has its cause in the bytes that were read and in what the output took. On Done the
+    // input was read to its end, and the output took the text of a transcript that is lawful for the
+    // script whose bytes were read.
+    ensures outcome { (bytes : List ℕ) × Gives bytes (I.left input.old) (I.left input.new)
+        × Explains result bytes (I.left input.new) (O.taken output.old) (O.taken output.new) }
+
+    ensures usage { (result ≡ Status.Usage) ↔ (is_run_line words.now ≡ false) }
+
+    // A fault is one of the outside.
+    ensures input_count { I.faults input.old ≤ I.faults input.new }
+    ensures output_count { O.faults output.old ≤ O.faults output.new }
+    ensures read_fault { result ≡ Status.ReadFault → Rose (I.faults input.old) (I.faults input.new) }
+    ensures write_fault { result ≡ Status.WriteFault → Rose (O.faults output.old) (O.faults output.new) }
+
+    // Where nothing fails, the status is the one that the input asks for, unless memory ran out.
+    ensures complete { is_run_line words.now ≡ true → IfSome (I.left input.old) (λ bytes.
+        ¬ Rose (I.faults input.old) (I.faults input.new) → ¬ Rose (O.faults output.old) (O.faults output.new)
+        → (result ≡ expected bytes) ⊎ (result ≡ Status.NoMemory)) }
+{
+    if !is_run_line(words) {
+        return Status::Usage;
+    }
+    let bytes = match read_to_end(alloc, input) {
+        Ok(bytes) => bytes,
+        Err(InputFault::Failed) => return Status::ReadFault,
+        Err(InputFault::TooLong) => return Status::InputTooLong,
+        Err(InputFault::NoMemory) => return Status::NoMemory,
+    };
+    match answer(alloc, bytes) {
+        Ok(text) => match write_all(output, text.as_slice()) {
+            Ok(()) => Status::Done,
+            Err(_) => Status::WriteFault,
+        },
+        Err(ScriptRefusal::Refused {
+            session,
+            command,
+            why,
+        }) => Status::ScriptRefused {
+            session,
+            command,
+            why,
+        },
+        Err(ScriptRefusal::NoMemory) => Status::NoMemory,
+    }
+}
+
+// Whether the words are the one word `run`.
+fn is_run_line(words: &[String]) -> bool
+    ensures { result ≡ is_run_line words.now }
+{
+    match words {
+        [word] => word.as_str() == "run",
+        _ => false,
+    }
+}

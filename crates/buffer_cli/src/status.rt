@@ -1,0 +1,75 @@
+use script::ScriptRule;
+use std::fmt;
+
+/// How a top call ended.
+#[derive(Clone, Copy, Debug, PartialEq, Eq)]
+pub enum Status {
+    /// The whole result was written.
+    Done,
+    /// The words aren't a command line.
+    Usage,
+    /// The script breaks a rule, first at this place. Sessions and commands are counted from 1;
+    /// the place of the document itself is session 0, command 0.
+    ScriptRefused {
+        session: u32,
+        command: u32,
+        why: ScriptRule,
+    },
+    /// The input failed.
+    ReadFault,
+    /// The output failed. It may hold a part of the result.
+    WriteFault,
+    /// The input has more than 2^26 bytes.
+    InputTooLong,
+    /// There was no memory for it.
+    NoMemory,
+}
+
+impl Status {
+    /// The exit status of the program.
+    pub fn code(self) -> u8 {
+        match self {
+            Status::Done => 0,
+            Status::Usage => 2,
+            Status::ScriptRefused { .. } => 3,
+            Status::ReadFault => 4,
+            Status::WriteFault => 5,
+            Status::InputTooLong => 8,
+            Status::NoMemory => 9,
+        }
+    }
+
+    /// What the program prints on standard error, if anything.
+    pub fn fault_line(self) -> Option<Fault> {
+        match self {
+            Status::Done => None,
+            status => Some(Fault { status }),
+        }
+    }
+}
+
+/// The one line that tells a user why a run ended.
+#[derive(Clone, Copy, Debug, PartialEq, Eq)]
+pub struct Fault {
+    status: Status,
+}
+
+impl fmt::Display for Fault {
+    fn fmt<W: fmt::Write>(&self, f: &mut fmt::Formatter<W>) -> fmt::Result {
+        match self.status {
+            Status::Done => Ok(()),
+            Status::Usage => f.write_str(
+                "usage: run [--workers N] | bulk FIRST EDITS WORKERS | check SCRIPT TRANSCRIPT | make FIRST EDITS SESSIONS",
+            ),
+            Status::ScriptRefused {
+                session,
+                command,
+                why,
+            } => write!(f, "script refused: session {session} command {command}: {why}"),
+            Status::ReadFault => f.write_str("cannot read the input"),
+            Status::WriteFault => f.write_str("cannot write the output"),
+            Status::InputTooLong => f.write_str("input too long"),
+            Status::NoMemory => f.write_str("out of memory"),
+        }
+    }
+}
