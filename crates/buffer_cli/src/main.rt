@@ -7,7 +7,7 @@
 
 mod adapters;
 mod answer;
-//mod document;
+mod document;
 mod input;
 mod output;
 mod run;

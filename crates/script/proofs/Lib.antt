@@ -5,3 +5,4 @@ pub mod Loops
 pub mod Whole
 pub mod Documents
 pub mod LimitLemmas
+pub mod StepLemmas

@@ -1,27 +1,28 @@
 -- One session: its numbers go up by one, so the plain machine's replies are lawful.
-use Rattle.std.proofs.Common.{◌≡◌, ℕ, zero, suc, ◌+◌, ◌<◌, ◌≤◌, List, [], ◌∷◌, length, map, take, get_or, Bool, true, false, cond, ◌&&◌, eqb, Some, refl, sym, eq-eqb, ◌∙◌, ap, subst, arith, zero-add, add-one, append-nil}
+use Rattle.std.proofs.Common.{◌≡◌, ℕ, zero, suc, ◌+◌, ◌<◌, ◌≤◌, List, [], ◌∷◌, length, map, take, get_or, Bool, true, false, cond, ◌&&◌, eqb, Some, refl, sym, eq-eqb, ◌∙◌, ap, subst, arith, zero-add, add-one, append-nil, add-zero}
 use Rattle.std.specs.Prelude.{find, count_by, ◌==◌, nat_lt}
 use Rattle.std.specs.List.Sorted.{IsStrictlyIncreasing}
 use Rattle.std.proofs.lemmas.Bool.{ne_eqb}
 use Rattle.std.proofs.lemmas.List.Sums.{sum_by-cons}
 use Rattle.std.proofs.lemmas.List.{length-map}
 use Rattle.points.specs.declared.range.Range.{Range}
-use Rattle.points.specs.Text.{utf16_of, replaced}
+use Rattle.points.specs.Text.{utf16_of, text_of, replaced}
 use Rattle.points.specs.Place.{span}
 use Rattle.script.specs.declared.command.Command.{Command}
+use Rattle.script.specs.declared.command.Script.{Script}
 use Rattle.script.specs.declared.command.Command.TheVariants as command
 use Rattle.script.specs.declared.reply.CallRefusal.TheVariants.{TooLong}
 use Rattle.script.specs.declared.reply.Reply.{Reply}
 use Rattle.script.specs.declared.reply.Reply.TheVariants as reply
 use Rattle.script.specs.Machine.{State, opened, step, call_of, after, replies, edit_step, counted, changed, edited, edited_nothing, max_units}
-use Rattle.script.specs.Lawful.{number_of, has_form, have_forms, Entry, session_entries, entries, has_number, numbered, state_after, HasForm, CallsAgree, EndAgrees}
+use Rattle.script.specs.Lawful.{number_of, has_form, have_forms, Entry, session_entries, entries, has_number, numbered, state_after, HasForm, CallsAgree, EndAgrees, IsLawful, IsReplyAt}
 use Rattle.script.specs.Laws.{plain_transcript, PlainIsLawful}
 
 -- what a command gave: the next number, and a reply of its form
-record IsCounted (s : State) (c : Command) (r : State × Reply) : Type 0 where
-  counted : r.0.count ≡ suc s.count
-  number : number_of r.1 ≡ suc s.count
-  form : has_form c r.1 ≡ true
+pub record IsCounted (s : State) (c : Command) (r : State × Reply) : Type 0 where
+  pub counted : r.0.count ≡ suc s.count
+  pub number : number_of r.1 ≡ suc s.count
+  pub form : has_form c r.1 ≡ true
 
 counted_cond : (s : State) (c : Command) (b : Bool) (x y : State × Reply) → IsCounted s c x → IsCounted s c y → IsCounted s c (cond b x y)
 counted_cond s c true x y p q = p
@@ -38,7 +39,7 @@ edit_counts s range bytes i j new =
     (record { counted = e; number = e; form = refl }) (record { counted = e; number = e; form = refl }))
 
 -- each command is counted
-step_counts : (s : State) (c : Command) → IsCounted s c (step s (call_of c))
+pub step_counts : (s : State) (c : Command) → IsCounted s c (step s (call_of c))
 unfolding step
 step_counts s (command.Edit range bytes) =
     edit_counts s range bytes (span s.text range.start range.end).0 (span s.text range.start range.end).1 (utf16_of bytes)
@@ -191,3 +192,16 @@ plain_is_lawful script opening commands one = rw one (record {
   snapshot = tt;
   end = rw (entries-run opening commands) (end_of opening commands);
 })
+
+-- how many calls are numbered after a run
+after_counts : (s : State) (cs : List Command) → (after s (map call_of cs)).count ≡ s.count + length cs
+after_counts s [] = sym (add-zero s.count)
+after_counts s (c ∷ cs) = after_counts (step s (call_of c)).0 cs ∙ omega (arith, (step_counts s c).counted)
+
+-- the parts of what the plain machine answers
+pub lawful_from_parts : (script : Script) (opening : List ℕ) (commands : List Command) (count : ℕ) (bytes : List ℕ) (sessions : List (List Reply)) → script.sessions ≡ commands ∷ []
+    → count ≡ (after (opened opening) (map call_of commands)).count → bytes ≡ text_of (after (opened opening) (map call_of commands)).text
+    → sessions ≡ replies (opened opening) (map call_of commands) ∷ [] → IsLawful script opening (record { end = record { count = count; text = bytes }; sessions = sessions; version = 1 })
+lawful_from_parts script opening commands count bytes sessions one counts texts answers =
+    let all : count ≡ length commands = counts ∙ after_counts (opened opening) commands ∙ zero-add (length commands) in
+    rw (all, texts, answers) (plain_is_lawful script opening commands one)

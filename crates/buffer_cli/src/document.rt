@@ -1,0 +1,175 @@
+ghost use Rattle.std.specs.Prelude.{◌≡◌, ℕ, ◌+◌, ◌-◌, ◌<◌, ◌≤◌, ◌^◌, ◌==◌, ◌&&◌, length, IfOk, OnErr};
+ghost use Rattle.std.specs.Char.Utf16.{is_high_surrogate, is_low_surrogate};
+ghost use Rattle.points.specs.Text.{utf16_of, text_of};
+ghost use Rattle.points.specs.Place.{clipped_offset, splits_pair};
+ghost use Rattle.script.specs.Machine.{max_units, opened, edit, text as look, step, shown};
+
+use line_text::{LineText, TextRefusal};
+use points::{NoMemory, Range};
+use script::{CallRefusal, HitCounts, Reply, Text};
+use std::alloc::Global;
+use std::marker::Model;
+
+/// There are no marks, so a change hits none.
+const NO_HITS: HitCounts = HitCounts {
+    touch: 0,
+    inside: 0,
+    overlap: 0,
+    surround: 0,
+};
+
+/// The text that a run edits, with the count of its calls. Contracts see the plain machine's state.
+#[derive(Debug, Drop)]
+pub(crate) struct Document {
+    text: LineText,
+    /// How many calls were numbered.
+    count: u64,
+    /// The number of the last call that changed the text, or 0.
+    version: u64,
+}
+
+impl Model for Document {
+    ghost use Rattle.script.specs.Machine.{State};
+
+    ghost Value = { State };
+
+    ghost view = { λ d. record { text = d.text; count = d.count; version = d.version } };
+}
+
+impl Document {
+    /// A document with this text, before any call.
+    pub(crate) fn open(alloc: Global, text: &str) -> Result<Self, NoMemory>
+        requires { length (utf16_of text.now) ≤ max_units }
+        ensures { IfOk result (λ d. d ≡ opened (utf16_of text.now)) }
+    {
+        match LineText::from_str(alloc, text) {
+            Ok(text) => Ok(Document {
+                text,
+                count: 0,
+                version: 0,
+            }),
+            Err(TextRefusal::TooLong) => unreachable!(),
+            Err(TextRefusal::NoMemory) => Err(NoMemory),
+        }
+    }
+
+    /// How many calls were numbered.
+    pub(crate) fn count(&self) -> u64
+        ensures { result ≡ self.now.count }
+    {
+        self.count
+    }
+
+    /// The whole text.
+    pub(crate) fn to_text(&self, alloc: Global) -> Result<Text, NoMemory>
+        ensures { IfOk result (λ t. t ≡ text_of self.now.text) }
+    {
+        let units = self.text.slice(0, self.text.len());
+        Ok(Text::new(String::from_utf16_lossy(alloc, units)?))
+    }
+
+    /// Replaces the clipped range by the text.
+    pub(crate) fn edit(&mut self, range: Range, text: &str) -> Result<Reply, NoMemory>
+        requires { self.old.count < 2 ^ 64 - 1 }
+        ensures ok { IfOk result (λ reply. step self.old (edit range (utf16_of text.now)) ≡ (self.new, reply)) }
+        ensures err { OnErr result (self.new ≡ self.old) }
+    {
+        let (from, to) = span(&self.text, range);
+        let at = self.count + 1;
+        if changes_nothing(from, to, text) {
+            let point = self.text.point_at(from);
+            self.count = at;
+            return Ok(Reply::Edited {
+                at,
+                end: point,
+                from: point,
+                hits: NO_HITS,
+                to: point,
+            });
+        }
+        match self.text.replace(range, text) {
+            Ok(replaced) => {
+                self.count = at;
+                self.version = at;
+                Ok(Reply::Edited {
+                    at,
+                    end: replaced.end,
+                    from: replaced.from,
+                    hits: NO_HITS,
+                    to: replaced.to,
+                })
+            }
+            Err(TextRefusal::TooLong) => {
+                self.count = at;
+                Ok(Reply::Refused {
+                    at,
+                    no: CallRefusal::TooLong,
+                })
+            }
+            Err(TextRefusal::NoMemory) => Err(NoMemory),
+        }
+    }
+
+    /// Shows the first `limit` units of the clipped range, one fewer where that would part a surrogate pair.
+    pub(crate) fn look(&mut self, alloc: Global, range: Range, limit: u32) -> Result<Reply, NoMemory>
+        requires { self.old.count < 2 ^ 64 - 1 }
+        ensures ok { IfOk result (λ reply. step self.old (look range limit) ≡ (self.new, reply)) }
+        ensures err { OnErr result (self.new ≡ self.old) }
+    {
+        let (from, to) = span(&self.text, range);
+        let units = shown(self.text.slice(from, to), limit as usize);
+        let text = String::from_utf16_lossy(alloc, units)?;
+        self.count += 1;
+        Ok(Reply::Text {
+            at: self.count,
+            text: Text::new(text),
+            units: (to - from) as u64,
+        })
+    }
+}
+
+/// Whether an edit from one offset to another by this text leaves everything as it was.
+fn changes_nothing(from: usize, to: usize, text: &str) -> bool
+    ensures { result ≡ ((from == to) && (length (utf16_of text.now) == 0)) }
+{
+    from == to && text.is_empty()
+}
+
+/// The offsets of the clipped ends of a range.
+fn span(text: &LineText, range: Range) -> (usize, usize)
+    ensures from { result.0 ≡ clipped_offset text.now range.start }
+    ensures to { result.1 ≡ clipped_offset text.now range.end }
+    ensures order { result.0 ≤ result.1 }
+    ensures within { result.1 ≤ length text.now }
+{
+    let from = text.offset_of(text.clip(range.start)).unwrap_or(0);
+    let to = text.offset_of(text.clip(range.end)).unwrap_or(0);
+    (from, to)
+}
+
+/// The first units, at most `limit`, and one fewer where that would part a surrogate pair.
+fn shown(units: &[u16], limit: usize) -> &[u16]
+    ensures { result.now ≡ shown limit units.now }
+{
+    let end = limit.min(units.len());
+    if splits_pair(units, end) { &units[..end - 1] } else { &units[..end] }
+}
+
+// Whether `at` stands between the two units of a surrogate pair.
+fn splits_pair(units: &[u16], at: usize) -> bool
+    ensures { result ≡ splits_pair units.now at }
+{
+    0 < at && at < units.len() && is_high(units[at - 1]) && is_low(units[at])
+}
+
+fn is_high(unit: u16) -> bool
+    ensures { result ≡ is_high_surrogate unit }
+{
+    (0xd800..0xdc00).contains(&unit)
+}
+
+fn is_low(unit: u16) -> bool
+    ensures { result ≡ is_low_surrogate unit }
+{
+    (0xdc00..0xe000).contains(&unit)
+}
