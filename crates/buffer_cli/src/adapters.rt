@@ -1,6 +1,6 @@
 //! The trusted edge: standard input as a source, and standard output as a sink. They tell nothing of
 //! the bytes that pass, and count their faults.
-ghost use Rattle.std.specs.Prelude.{◌≡◌, None};
+ghost use Rattle.std.specs.Prelude.{None};
 
 use outer::{Failed, Sink, Source};
 use std::io;
@@ -44,6 +44,12 @@ pub(crate) struct Writing<W> {
 impl<W> Writing<W> {
     pub(crate) fn new(writer: W) -> Self {
         Writing { writer, faults: 0 }
+    }
+
+    #[cfg(test)]
+    pub(crate) fn into_writer(self) -> W {
+        let Writing { writer, faults: _ } = self;
+        writer
     }
 }
 
