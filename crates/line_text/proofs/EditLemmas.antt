@@ -11,12 +11,12 @@ use Rattle.line_text.proofs.StartLemmas.{starts-append, length-starts}
 -- lists with the same rest have the same next item
 same_next : (xs ys : List ℕ) (i : ℕ) → drop i xs ≡ drop i ys → get_or xs i 0 ≡ get_or ys i 0
 same_next xs ys i e = let at : i + 0 ≡ i = omega arith in
-  subst (λ (k : ℕ). get_or xs k 0 ≡ get_or ys k 0) at (sym (get_or-drop i xs 0 0) ∙ (ap (λ (zs : List ℕ). get_or zs 0 0) e ∙ get_or-drop i ys 0 0))
+    subst (λ (k : ℕ). get_or xs k 0 ≡ get_or ys k 0) at (sym (get_or-drop i xs 0 0) ∙ (ap (λ (zs : List ℕ). get_or zs 0 0) e ∙ get_or-drop i ys 0 0))
 
 pub moved_more : (f : ℕ → ℕ) (xs ys : List ℕ) (i : ℕ) → i < length xs → i < length ys → take i ys ≡ map f (take i xs) → drop i ys ≡ drop i xs → take (i + 1) (set ys i (f (get_or ys i 0))) ≡ map f (take (i + 1) xs)
 moved_more f xs ys i x_in y_in moved rest = take_more_set ys i (f (get_or ys i 0)) y_in
-  ∙ (ap (λ (zs : List ℕ). zs ++ f (get_or ys i 0) ∷ []) moved
-  ∙ (ap (λ (n : ℕ). map f (take i xs) ++ f n ∷ []) (same_next ys xs i rest) ∙ sym (map_more f xs i 0 x_in)))
+    ∙ (ap (λ (zs : List ℕ). zs ++ f (get_or ys i 0) ∷ []) moved
+    ∙ (ap (λ (n : ℕ). map f (take i xs) ++ f n ∷ []) (same_next ys xs i rest) ∙ sym (map_more f xs i 0 x_in)))
 
 pub next_item : (xs ys : List ℕ) (i : ℕ) → drop i ys ≡ drop i xs → get_or ys i 0 ≡ get_or xs i 0
 next_item xs ys i rest = same_next ys xs i rest
@@ -40,8 +40,8 @@ pub written_lf : (base : ℕ) (units : List ℕ) (i : ℕ) (into : List ℕ) (at
 written_lf base units i into at behind within lf e fits h = record {
   counted = omega (arith, h.counted, one_more);
   written = take_more_set into at behind (omega (arith, h.counted, one_more, sum_by-take-le (λ u. cond (is_lf u) 1 0) units (i + 1)))
-    ∙ (ap (λ (xs : List ℕ). xs ++ behind ∷ []) h.written ∙ (ap (λ (n : ℕ). starts_from base (take i units) ++ n ∷ []) e
-    ∙ sym (starts_more base units i within ∙ ap (λ (xs : List ℕ). starts_from base (take i units) ++ xs) (starts_one_lf (base + i) (get_or units i 0) lf))));
+      ∙ (ap (λ (xs : List ℕ). xs ++ behind ∷ []) h.written ∙ (ap (λ (n : ℕ). starts_from base (take i units) ++ n ∷ []) e
+      ∙ sym (starts_more base units i within ∙ ap (λ (xs : List ℕ). starts_from base (take i units) ++ xs) (starts_one_lf (base + i) (get_or units i 0) lf))));
 }
   where
     one_more : feeds (take (i + 1) units) ≡ feeds (take i units) + 1

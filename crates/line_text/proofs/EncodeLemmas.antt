@@ -15,11 +15,11 @@ length-utf16_push ys c = ap length (utf16-append ys (c ∷ [])) ∙ (length-appe
 -- the characters ys, and then c, come first among the characters cs
 pub next_fits : (cs ys : List ℕ) (c : ℕ) → map (λ x. x) ys ≡ take (length ys) cs → (length ys < length cs) × (c ≡ get_or cs (length ys) c) → length (utf16 ys) + length (encode_utf16 c) ≤ length (utf16 cs)
 next_fits cs ys c so_far turn = subst (λ (xs : List ℕ). length (utf16 ys) + length (encode_utf16 c) ≤ length (utf16 xs)) whole
-  (omega (arith, ap length (utf16-append ys (c ∷ drop (length ys + 1) cs)), length-append (utf16 ys) (encode_utf16 c ++ utf16 (drop (length ys + 1) cs)), length-append (encode_utf16 c) (utf16 (drop (length ys + 1) cs))))
+    (omega (arith, ap length (utf16-append ys (c ∷ drop (length ys + 1) cs)), length-append (utf16 ys) (encode_utf16 c ++ utf16 (drop (length ys + 1) cs)), length-append (encode_utf16 c) (utf16 (drop (length ys + 1) cs))))
   where
     whole : ys ++ c ∷ drop (length ys + 1) cs ≡ cs
     whole = ap (λ (xs : List ℕ). xs ++ c ∷ drop (length ys + 1) cs) (sym (map-id ys) ∙ so_far)
-      ∙ (ap (λ (xs : List ℕ). take (length ys) cs ++ xs) (ap (λ (x : ℕ). x ∷ drop (length ys + 1) cs) turn.1 ∙ sym (drop_more cs (length ys) c turn.0)) ∙ take-append-drop (length ys) cs)
+        ∙ (ap (λ (xs : List ℕ). take (length ys) cs ++ xs) (ap (λ (x : ℕ). x ∷ drop (length ys + 1) cs) turn.1 ∙ sym (drop_more cs (length ys) c turn.0)) ∙ take-append-drop (length ys) cs)
 
 -- the line feeds of one character more
 pub feeds-utf16_push : (ys : List ℕ) (c : ℕ) → feeds (utf16 (ys ++ c ∷ [])) ≡ feeds (utf16 ys) + feeds (encode_utf16 c)
@@ -34,8 +34,9 @@ feeds-encode_other c ne = grind (arith, nat_tests)
 -- the length that `len_utf16` gives
 pub length-encode : (c n : ℕ) → (c < 0x1_0000 → n ≡ 1) → (0x1_0000 ≤ c → n ≡ 2) → n ≡ length (encode_utf16 c)
 length-encode c n one two = elim (cases_lt c 0x1_0000) [
-    inl low ↦ one low ∙ sym (ap (λ (b : Bool). length (cond b (c ∷ []) ((0xD800 + (c - 0x1_0000) / 0x400) ∷ (0xDC00 + (c - 0x1_0000) % 0x400) ∷ []))) (lt-ltb c 0x1_0000 low))
-  | inr high ↦ two high ∙ sym (ap (λ (b : Bool). length (cond b (c ∷ []) ((0xD800 + (c - 0x1_0000) / 0x400) ∷ (0xDC00 + (c - 0x1_0000) % 0x400) ∷ []))) (le-ltb c 0x1_0000 high)) ]
+  | inl low ↦ one low ∙ sym (ap (λ (b : Bool). length (cond b (c ∷ []) ((0xD800 + (c - 0x1_0000) / 0x400) ∷ (0xDC00 + (c - 0x1_0000) % 0x400) ∷ []))) (lt-ltb c 0x1_0000 low))
+  | inr high ↦ two high ∙ sym (ap (λ (b : Bool). length (cond b (c ∷ []) ((0xD800 + (c - 0x1_0000) / 0x400) ∷ (0xDC00 + (c - 0x1_0000) % 0x400) ∷ []))) (le-ltb c 0x1_0000 high))
+]
 
 abbrev size : ℕ → ℕ → Size
 size units line_feeds = record { units = units; feeds = line_feeds }

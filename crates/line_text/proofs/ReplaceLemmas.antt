@@ -34,18 +34,19 @@ can_move t starts j to last kept within last_is small = subst (CanMove j to) (sy
 -- the new units stand in the new text where they were written
 pub written_is : (t : List ℕ) (i j n : ℕ) (s units : List ℕ) → i ≤ length t → n ≡ length s → units ≡ replaced t i j s → take (i + n - i) (drop i units) ≡ s
 written_is t i j n s units within len e = ap (λ (xs : List ℕ). take (i + n - i) (drop i xs)) e
-  ∙ (ap (λ (xs : List ℕ). take (i + n - i) (drop i xs)) (append_assoc (take i t) s (drop j t))
-  ∙ (ap (take (i + n - i)) (drop_at (take i t) (s ++ drop j t) i (length-take-le i t within)) ∙ take_at s (drop j t) (i + n - i) (omega arith)))
+    ∙ (ap (λ (xs : List ℕ). take (i + n - i) (drop i xs)) (append_assoc (take i t) s (drop j t))
+    ∙ (ap (take (i + n - i)) (drop_at (take i t) (s ++ drop j t) i (length-take-le i t within)) ∙ take_at s (drop j t) (i + n - i) (omega arith)))
 
 pub starts_edited : (t starts s written : List ℕ) (i j first last : ℕ) → starts ≡ starts_of t → i ≤ j → j ≤ length t → first ≡ feeds (take i t) → last ≡ feeds (take j t) → written ≡ s
-  → take first starts ++ starts_from i written ++ map (λ x. x - j + (i + length written)) (drop last starts) ≡ starts_of (replaced t i j s)
+    → take first starts ++ starts_from i written ++ map (λ x. x - j + (i + length written)) (drop last starts) ≡ starts_of (replaced t i j s)
 starts_edited t starts s written i j first last kept order within first_is last_is written_s =
-  ap (λ (xs : List ℕ). xs ++ starts_from i written ++ map (λ x. x - j + (i + length written)) (drop last starts)) head
-  ∙ (ap (λ (xs : List ℕ). starts_of (take i t) ++ starts_from i xs ++ map (λ x. x - j + (i + length xs)) (drop last starts)) written_s
-  ∙ (ap (λ (xs : List ℕ). starts_of (take i t) ++ starts_from i s ++ xs) tail ∙ sym (starts-replaced t i j s (omega arith))))
+    ap (λ (xs : List ℕ). xs ++ starts_from i written ++ map (λ x. x - j + (i + length written)) (drop last starts)) head
+    ∙ (ap (λ (xs : List ℕ). starts_of (take i t) ++ starts_from i xs ++ map (λ x. x - j + (i + length xs)) (drop last starts)) written_s
+    ∙ (ap (λ (xs : List ℕ). starts_of (take i t) ++ starts_from i s ++ xs) tail ∙ sym (starts-replaced t i j s (omega arith))))
   where
     head : take first starts ≡ starts_of (take i t)
     head = ap (λ (n : ℕ). take n starts) first_is ∙ (ap (take (feeds (take i t))) kept ∙ take-starts t i (omega arith))
+
     tail : map (λ x. x - j + (i + length s)) (drop last starts) ≡ starts_from (i + length s) (drop j t)
     tail = ap (map (λ x. x - j + (i + length s))) (ap (λ (n : ℕ). drop n starts) last_is ∙ (ap (drop (feeds (take j t))) kept ∙ drop-starts t j within))
-      ∙ starts-moved j (i + length s) j (i + length s) (drop j t) (omega arith) (omega arith)
+        ∙ starts-moved j (i + length s) j (i + length s) (drop j t) (omega arith) (omega arith)

@@ -29,14 +29,16 @@ module _ (t starts : List ℕ) (kept : starts ≡ starts_of t) where
   -- the starts up to an offset come first
   pub starts_partitioned : (i : ℕ) → IsPartitionedBy (λ s. leb s i) starts
   starts_partitioned i a b d le within passes = le-leb (get_or starts a d) i
-    (omega (arith, leb-true (get_or starts b d) i passes, start_kept_at a d (omega (arith, count_kept)), start_kept_at b d (omega (arith, count_kept)), row_start_mono t (a + 1) (b + 1) (omega arith)))
+      (omega (arith, leb-true (get_or starts b d) i passes, start_kept_at a d (omega (arith, count_kept)), start_kept_at b d (omega (arith, count_kept)), row_start_mono t (a + 1) (b + 1) (omega arith)))
 
   -- there are as many of them as line feeds before the offset
   pub row_found : (i n : ℕ) → i ≤ length t → n ≤ length starts → IsPartitionPoint (λ s. leb s i ≡ true) (λ s. leb s i ≡ false) starts n → n ≡ feeds (take i t)
   row_found i n within bound found = let at = in_row t i within in elim (cases_order n (feeds (take i t))) [
-      inl e ↦ e
+    | inl e ↦ e
     | inr h ↦ elim h [
-        inl low ↦ let above = leb-false (get_or starts n 0) i (found.1 n 0 (omega arith) (omega (arith, count_kept, at.row))) in
+      | inl low ↦ let above = leb-false (get_or starts n 0) i (found.1 n 0 (omega arith) (omega (arith, count_kept, at.row))) in
           absurd (omega (arith, above, start_kept n (omega (arith, at.row)), row_start_mono t (n + 1) (feeds (take i t)) (omega arith), at.offset))
       | inr high ↦ let below = leb-true (get_or starts (feeds (take i t)) 0) i (found.0 (feeds (take i t)) 0 (omega arith) high) in
-          absurd (omega (arith, below, end_kept (feeds (take i t)) (omega (arith, count_kept)), at.column, at.offset)) ] ]
+          absurd (omega (arith, below, end_kept (feeds (take i t)) (omega (arith, count_kept)), at.column, at.offset))
+    ]
+  ]

@@ -16,7 +16,7 @@ starts-append_unit false n xs ys zs e = e
 pub starts-append : (k : ℕ) (a b : List ℕ) → starts_from k (a ++ b) ≡ starts_from k a ++ starts_from (k + length a) b
 starts-append k [] b = let e : k ≡ k + 0 = omega arith in ap (λ (n : ℕ). starts_from n b) e
 starts-append k (u ∷ us) b = let e : k + 1 + length us ≡ k + suc (length us) = omega arith in
-  starts-append_unit (is_lf u) (k + 1) (starts_from (k + 1) (us ++ b)) (starts_from (k + 1) us) (starts_from (k + suc (length us)) b)
+    starts-append_unit (is_lf u) (k + 1) (starts_from (k + 1) (us ++ b)) (starts_from (k + 1) us) (starts_from (k + suc (length us)) b)
     (starts-append (k + 1) us b ∙ ap (λ (n : ℕ). starts_from (k + 1) us ++ starts_from n b) e)
 
 pub length-starts : (k : ℕ) (t : List ℕ) → length (starts_from k t) ≡ feeds t
@@ -46,31 +46,33 @@ start_at_lf k u us (suc r) lf within rest = ap (λ (xs : List ℕ). get_or xs (s
 pub start_at : (k : ℕ) (t : List ℕ) (r : ℕ) → r < feeds t → get_or (starts_from k t) r 0 ≡ k + row_start t (suc r)
 start_at k [] r lt = absurd (omega arith)
 start_at k (u ∷ us) r lt = elim (cases_Bool (is_lf u)) [
-    inl lf ↦ start_at_lf k u us r lf (grind (arith, nat_tests, feeds-cons u us)) (λ p within. start_at (k + 1) us p within)
+  | inl lf ↦ start_at_lf k u us r lf (grind (arith, nat_tests, feeds-cons u us)) (λ p within. start_at (k + 1) us p within)
   | inr no_lf ↦ let within : r < feeds us = grind (arith, nat_tests, feeds-cons u us) in
-      ap (λ (xs : List ℕ). get_or xs r 0) (starts_unit k u us no_lf) ∙ omega (arith, start_at (k + 1) us r within, row_start_later u us r no_lf) ]
+      ap (λ (xs : List ℕ). get_or xs r 0) (starts_unit k u us no_lf) ∙ omega (arith, start_at (k + 1) us r within, row_start_later u us r no_lf)
+]
 
 -- the starts of a text in which the units from offset i up to offset j were replaced by s
 pub starts-replaced : (t : List ℕ) (i j : ℕ) (s : List ℕ) → i ≤ length t → starts_of (replaced t i j s) ≡ starts_of (take i t) ++ starts_from i s ++ starts_from (i + length s) (drop j t)
 starts-replaced t i j s within = starts-append 0 (take i t ++ s) (drop j t) ∙ (ap (λ (xs : List ℕ). xs ++ starts_from (0 + length (take i t ++ s)) (drop j t)) (starts-append 0 (take i t) s)
-  ∙ ap (λ (n : ℕ). starts_of (take i t) ++ starts_from n s ++ starts_from (0 + length (take i t ++ s)) (drop j t)) first
-  ∙ ap (λ (n : ℕ). starts_of (take i t) ++ starts_from i s ++ starts_from n (drop j t)) second)
+    ∙ ap (λ (n : ℕ). starts_of (take i t) ++ starts_from n s ++ starts_from (0 + length (take i t ++ s)) (drop j t)) first
+    ∙ ap (λ (n : ℕ). starts_of (take i t) ++ starts_from i s ++ starts_from n (drop j t)) second)
   where
     first : 0 + length (take i t) ≡ i
     first = omega (arith, length-take-le i t within)
+
     second : 0 + length (take i t ++ s) ≡ i + length s
     second = omega (arith, length-take-le i t within, length-append (take i t) s)
 
 -- the starts of a text's front and back
 pub take-starts : (t : List ℕ) (i : ℕ) → i ≤ length t → take (feeds (take i t)) (starts_of t) ≡ starts_of (take i t)
 take-starts t i within = ap (λ (xs : List ℕ). take (feeds (take i t)) (starts_of xs)) (sym (take-append-drop i t))
-  ∙ (ap (take (feeds (take i t))) (starts-append 0 (take i t) (drop i t)) ∙ take_at (starts_of (take i t)) (starts_from (0 + length (take i t)) (drop i t)) (feeds (take i t)) (length-starts 0 (take i t)))
+    ∙ (ap (take (feeds (take i t))) (starts-append 0 (take i t) (drop i t)) ∙ take_at (starts_of (take i t)) (starts_from (0 + length (take i t)) (drop i t)) (feeds (take i t)) (length-starts 0 (take i t)))
 
 pub drop-starts : (t : List ℕ) (i : ℕ) → i ≤ length t → drop (feeds (take i t)) (starts_of t) ≡ starts_from i (drop i t)
 drop-starts t i within = ap (λ (xs : List ℕ). drop (feeds (take i t)) (starts_of xs)) (sym (take-append-drop i t))
-  ∙ (ap (drop (feeds (take i t))) (starts-append 0 (take i t) (drop i t))
-  ∙ (drop_at (starts_of (take i t)) (starts_from (0 + length (take i t)) (drop i t)) (feeds (take i t)) (length-starts 0 (take i t))
-  ∙ ap (λ (n : ℕ). starts_from n (drop i t)) first))
+    ∙ (ap (drop (feeds (take i t))) (starts-append 0 (take i t) (drop i t))
+    ∙ (drop_at (starts_of (take i t)) (starts_from (0 + length (take i t)) (drop i t)) (feeds (take i t)) (length-starts 0 (take i t))
+    ∙ ap (λ (n : ℕ). starts_from n (drop i t)) first))
   where
     first : 0 + length (take i t) ≡ i
     first = omega (arith, length-take-le i t within)

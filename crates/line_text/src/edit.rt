@@ -7,10 +7,9 @@ ghost use Rattle.points.specs.Text.{is_lf, replaced, utf16_of};
 ghost use Rattle.line_text.specs.Size.{size_of};
 ghost use Rattle.line_text.specs.Starts.{starts_from, starts_of, CanMove};
 
-use points::NoMemory;
-
 use crate::encode::{Size, write_units};
 use crate::rows::Rows;
+use points::NoMemory;
 
 /// Replaces the units from `from` up to `to` by those of `text`, and mends the starts.
 pub(crate) fn replace_units(
@@ -37,7 +36,15 @@ pub(crate) fn replace_units(
     make_room(starts, size.feeds, last - first)?;
     edit_units(units, from, to, text, size.units);
     let written = &units.as_slice()[from..from + size.units];
-    edit_starts(starts, first, last, size.feeds, written, from as u32, to as u32);
+    edit_starts(
+        starts,
+        first,
+        last,
+        size.feeds,
+        written,
+        from as u32,
+        to as u32,
+    );
     Ok(())
 }
 

@@ -9,6 +9,8 @@ mod edit;
 mod encode;
 mod refusal;
 mod rows;
+#[cfg(test)]
+mod tests;
 mod text;
 
 pub use refusal::TextRefusal;

@@ -8,7 +8,7 @@ ghost use Rattle.points.specs.Text.{is_lf};
 ghost use Rattle.points.specs.Place.{extent, point_at, offset_of, row_of, row_start, ends_with_cr, line_of, splits_pair, clipped_column, clip, clipped_offset};
 ghost use Rattle.line_text.specs.Starts.{starts_of};
 
-use points::Point;
+use points::{Point, Range};
 
 /// The units of a text and the starts of its rows, lent.
 #[derive(Clone, Copy)]
@@ -25,7 +25,8 @@ impl<'a> Rows<'a> {
         requires { offset ≤ length self.units.now }
         ensures { result ≡ count_by is_lf (take offset self.entry.units.now) }
     {
-        self.starts.partition_point(|start| *start as usize <= offset)
+        self.starts
+            .partition_point(|start| *start as usize <= offset)
     }
 
     /// The last row: as many rows stand before it as there are line feeds.
@@ -40,7 +41,11 @@ impl<'a> Rows<'a> {
         requires { row ≤ count_by is_lf self.units.now }
         ensures { result ≡ row_start self.entry.units.now row }
     {
-        if row == 0 { 0 } else { self.starts[row - 1] as usize }
+        if row == 0 {
+            0
+        } else {
+            self.starts[row - 1] as usize
+        }
     }
 
     /// Where the units of `row` end: at its line feed, or at the end of the text.
@@ -48,7 +53,11 @@ impl<'a> Rows<'a> {
         requires { row ≤ count_by is_lf self.units.now }
         ensures { result ≡ row_start self.entry.units.now row + length (row_of self.entry.units.now row) }
     {
-        if row < self.last() { self.starts[row] as usize - 1 } else { self.units.len() }
+        if row < self.last() {
+            self.starts[row] as usize - 1
+        } else {
+            self.units.len()
+        }
     }
 
     /// The point at `offset`.
@@ -58,7 +67,10 @@ impl<'a> Rows<'a> {
     {
         let row = self.row_at(offset);
         let column = offset - self.start(row);
-        Point { row: row as u32, column: column as u32 }
+        Point {
+            row: row as u32,
+            column: column as u32,
+        }
     }
 
     /// The end of the text.
@@ -90,7 +102,11 @@ impl<'a> Rows<'a> {
         ensures { result.now ≡ line_of self.entry.units.now row }
     {
         let units = self.row(row);
-        if row < self.last() { without_cr(units) } else { units }
+        if row < self.last() {
+            without_cr(units)
+        } else {
+            units
+        }
     }
 
     // The units of `row`, with a carriage return of its ending.
@@ -127,6 +143,19 @@ impl<'a> Rows<'a> {
         }
         self.start(row) + clipped_column(self.line(row), point.column as usize)
     }
+
+    /// The offsets of the clipped ends of `range`.
+    pub(crate) fn span(self, range: Range) -> (usize, usize)
+        ensures from { result.0 ≡ clipped_offset self.entry.units.now range.start }
+        ensures to { result.1 ≡ clipped_offset self.entry.units.now range.end }
+        ensures order { result.0 ≤ result.1 }
+        ensures within { result.1 ≤ length self.entry.units.now }
+    {
+        (
+            self.clipped_offset(range.start),
+            self.clipped_offset(range.end),
+        )
+    }
 }
 
 // A row's units without a carriage return at their end.
@@ -144,7 +173,11 @@ fn clipped_column(line: &[u16], column: usize) -> usize
     ensures { result ≡ clipped_column line.now column }
 {
     let column = column.min(line.len());
-    if splits_pair(line, column) { column - 1 } else { column }
+    if splits_pair(line, column) {
+        column - 1
+    } else {
+        column
+    }
 }
 
 // Whether `column` stands between the two units of a surrogate pair.

@@ -2,15 +2,13 @@ ghost use Rattle.std.specs.Prelude.{◌≡◌, ℕ, ◌+◌, ◌<◌, ◌≤◌,
 ghost use Rattle.points.specs.Text.{utf16_of, replaced};
 ghost use Rattle.points.specs.Place.{extent, point_at, offset_of, clip, clipped_offset};
 
-use std::alloc::Global;
-use std::marker::Model;
-
-use points::{Point, Range};
-
 use crate::edit::replace_units;
 use crate::encode::size_within;
 use crate::refusal::TextRefusal;
 use crate::rows::Rows;
+use points::{Point, Range};
+use std::alloc::Global;
+use std::marker::Model;
 
 /// The most units that a text may have: 2^24.
 pub const MAX_UNITS: usize = 1 << 24;
@@ -119,18 +117,17 @@ impl LineText {
         ensures err { OnErr result (self.new ≡ self.old) }
     {
         let rows = self.rows_kept();
-        let from = rows.clipped_offset(range.start);
-        let to = rows.clipped_offset(range.end);
-        let from_point = rows.point_at(from);
-        let to_point = rows.point_at(to);
+        let (from, to) = rows.span(range);
+        let start = rows.clip(range.start);
+        let end = rows.clip(range.end);
         let room = MAX_UNITS - (rows.units.len() - (to - from));
         let Some(size) = size_within(text, room) else {
             return Err(TextRefusal::TooLong);
         };
         replace_units(&mut self.units, &mut self.starts, from, to, text, size)?;
         Ok(Replaced {
-            from: from_point,
-            to: to_point,
+            from: start,
+            to: end,
             end: self.point_at(from + size.units),
         })
     }

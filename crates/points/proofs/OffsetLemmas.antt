@@ -32,8 +32,9 @@ point_at_same t i j i_in j_in e = elim (cases_order i j) [ inl same ↦ same | i
 find_range : (q : ℕ → Bool) (a n i : ℕ) → a ≤ i → i < a + n → q i ≡ true → ((k : ℕ) → a ≤ k → k < i → q k ≡ false) → find q (range_with_len a n) ≡ Some i
 find_range q a zero i low high yes_at no_below = absurd (omega arith)
 find_range q a (suc n) i low high yes_at no_below = elim (cases_eq a i) [
-    inl e ↦ rw (subst (λ (k : ℕ). q k ≡ true) (sym e) yes_at) (ap Some e)
-  | inr ne ↦ rw (no_below a (omega arith) (omega arith)) (find_range q (a + 1) n i (omega arith) (omega arith) yes_at (λ k l h. no_below k (omega arith) h)) ]
+  | inl e ↦ rw (subst (λ (k : ℕ). q k ≡ true) (sym e) yes_at) (ap Some e)
+  | inr ne ↦ rw (no_below a (omega arith) (omega arith)) (find_range q (a + 1) n i (omega arith) (omega arith) yes_at (λ k l h. no_below k (omega arith) h))
+]
 
 find_range_none : (q : ℕ → Bool) (a n : ℕ) → ((k : ℕ) → a ≤ k → k < a + n → q k ≡ false) → find q (range_with_len a n) ≡ None
 find_range_none q a zero no_at = refl
@@ -42,8 +43,9 @@ find_range_none q a (suc n) no_at = rw (no_at a (omega arith) (omega arith)) (fi
 find_range_some : (q : ℕ → Bool) (a n i : ℕ) → find q (range_with_len a n) ≡ Some i → (a ≤ i) × (i < a + n) × (q i ≡ true)
 find_range_some q a zero i found = cc
 find_range_some q a (suc n) i found = elim (cases_Bool (q a)) [
-    inl y ↦ let e : a ≡ i = some_same a i (rw y at found) in (omega arith, omega arith, subst (λ (k : ℕ). q k ≡ true) e y)
-  | inr f ↦ let h = find_range_some q (a + 1) n i (rw f at found) in (omega arith, omega arith, h.2) ]
+  | inl y ↦ let e : a ≡ i = some_same a i (rw y at found) in (omega arith, omega arith, subst (λ (k : ℕ). q k ≡ true) e y)
+  | inr f ↦ let h = find_range_some q (a + 1) n i (rw f at found) in (omega arith, omega arith, h.2)
+]
   where
     some_same : (x y : ℕ) → Some x ≡ Some y → x ≡ y
     some_same x y e = cc
@@ -51,14 +53,14 @@ find_range_some q a (suc n) i found = elim (cases_Bool (q a)) [
 -- `offset_of` gives the one offset with that point, and None where no offset has it
 pub offset_of-at : (t : List ℕ) (p : Point) (i : ℕ) → i ≤ length t → point_at t i ≡ p → offset_of t p ≡ Some i
 offset_of-at t p i within e = find_range (λ k. same_point (point_at t k) p) 0 (length t + 1) i (omega arith) (omega arith) (subst (λ (x : Point). same_point (point_at t i) x ≡ true) e (same_point-refl (point_at t i)))
-  (λ k low lt. elim (cases_Bool (same_point (point_at t k) p)) [ inr f ↦ f | inl y ↦ absurd (apart k lt (same_point-true (point_at t k) p y)) ])
+    (λ k low lt. elim (cases_Bool (same_point (point_at t k) p)) [ inr f ↦ f | inl y ↦ absurd (apart k lt (same_point-true (point_at t k) p y)) ])
   where
     apart : (k : ℕ) → k < i → point_at t k ≡ p → ⊥
     apart k lt same = let k_is : k ≡ i = point_at_same t k i (omega arith) within (same ∙ sym e) in omega arith
 
 pub offset_of-nowhere : (t : List ℕ) (p : Point) → ((i : ℕ) → i ≤ length t → point_at t i ≡ p → ⊥) → offset_of t p ≡ None
 offset_of-nowhere t p nowhere = find_range_none (λ k. same_point (point_at t k) p) 0 (length t + 1)
-  (λ k low lt. elim (cases_Bool (same_point (point_at t k) p)) [ inr f ↦ f | inl y ↦ absurd (nowhere k (omega arith) (same_point-true (point_at t k) p y)) ])
+    (λ k low lt. elim (cases_Bool (same_point (point_at t k) p)) [ inr f ↦ f | inl y ↦ absurd (nowhere k (omega arith) (same_point-true (point_at t k) p y)) ])
 
 pub offset_of-some : (t : List ℕ) (p : Point) (i : ℕ) → offset_of t p ≡ Some i → (i ≤ length t) × (point_at t i ≡ p)
 offset_of-some t p i found = let h = find_range_some (λ k. same_point (point_at t k) p) 0 (length t + 1) i found in (omega arith, same_point-true (point_at t i) p h.2)

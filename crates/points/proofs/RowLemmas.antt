@@ -91,7 +91,7 @@ row_behind_lf u us r s row lf h = record {
   within = omega (arith, h.within);
   units = h.units;
   points = λ c le. let next : suc (s + c) ≡ suc s + c = omega arith in subst (λ (k : ℕ). point_at (u ∷ us) k ≡ at_row_column (suc r) c) next
-    (extent_lf u (take (s + c) us) lf ∙ ap (λ (p : Point). at_row_column (suc p.row) p.column) (h.points c le));
+      (extent_lf u (take (s + c) us) lf ∙ ap (λ (p : Point). at_row_column (suc p.row) p.column) (h.points c le));
 }
 
 row_first : (u : ℕ) (us : List ℕ) (row : List ℕ) → is_lf u ≡ false → IsRowAt us 0 0 row → IsRowAt (u ∷ us) 0 0 (u ∷ row)
@@ -103,9 +103,11 @@ row_first u us row no_lf h = record {
   where
     in_rest : (c : ℕ) → c ≤ length row → extent (take c us) ≡ at_row_column 0 c
     in_rest c le = let at_zero : 0 + c ≡ c = omega arith in subst (λ (k : ℕ). point_at us k ≡ at_row_column 0 c) at_zero (h.points c le)
+
     at_offset : (c : ℕ) → c ≤ suc (length row) → point_at (u ∷ us) c ≡ at_row_column 0 c
     at_offset zero le = refl
     at_offset (suc c) le = let e = in_rest c (omega arith) in extent_unit u (take c us) no_lf (ap (λ (p : Point). p.row) e) ∙ ap (λ (p : Point). at_row_column 0 (suc p.column)) e
+
     point_in : (c : ℕ) → c ≤ length (u ∷ row) → point_at (u ∷ us) (0 + c) ≡ at_row_column 0 c
     point_in c le = let at_zero : c ≡ 0 + c = omega arith in subst (λ (k : ℕ). point_at (u ∷ us) k ≡ at_row_column 0 c) at_zero (at_offset c (omega arith))
 
@@ -114,7 +116,7 @@ row_later u us r s row no_lf h = record {
   within = omega (arith, h.within);
   units = h.units;
   points = λ c le. let next : suc (s + c) ≡ suc s + c = omega arith in subst (λ (k : ℕ). point_at (u ∷ us) k ≡ at_row_column (suc r) c) next
-    (let e = h.points c le in extent_unit_before_lf u (take (s + c) us) no_lf (let rows = ap (λ (p : Point). p.row) e in omega (arith, rows)) ∙ e);
+      (let e = h.points c le in extent_unit_before_lf u (take (s + c) us) no_lf (let rows = ap (λ (p : Point). p.row) e in omega (arith, rows)) ∙ e);
 }
 
 -- every row stands where it starts
@@ -122,13 +124,15 @@ pub row_is : (t : List ℕ) (r : ℕ) → r ≤ feeds t → IsRowAt t r (row_sta
 row_is [] zero le = row_nil
 row_is [] (suc r) le = absurd (omega arith)
 row_is (u ∷ us) zero le = elim (cases_Bool (is_lf u)) [
-    inl lf ↦ subst (IsRowAt (u ∷ us) 0 0) (sym (row_of_lf u us lf)) (row_first_lf u us)
-  | inr no_lf ↦ subst (IsRowAt (u ∷ us) 0 0) (sym (row_of_first u us no_lf)) (row_first u us (row_of us 0) no_lf (row_is us 0 (omega arith))) ]
+  | inl lf ↦ subst (IsRowAt (u ∷ us) 0 0) (sym (row_of_lf u us lf)) (row_first_lf u us)
+  | inr no_lf ↦ subst (IsRowAt (u ∷ us) 0 0) (sym (row_of_first u us no_lf)) (row_first u us (row_of us 0) no_lf (row_is us 0 (omega arith)))
+]
 row_is (u ∷ us) (suc r) le = elim (cases_Bool (is_lf u)) [
-    inl lf ↦ subst (IsRowAt (u ∷ us) (suc r) (row_start (u ∷ us) (suc r))) (sym (row_of_behind_lf u us r lf)) (subst (λ (s : ℕ). IsRowAt (u ∷ us) (suc r) s (row_of us r)) (sym (row_start_behind_lf u us r lf))
+  | inl lf ↦ subst (IsRowAt (u ∷ us) (suc r) (row_start (u ∷ us) (suc r))) (sym (row_of_behind_lf u us r lf)) (subst (λ (s : ℕ). IsRowAt (u ∷ us) (suc r) s (row_of us r)) (sym (row_start_behind_lf u us r lf))
       (row_behind_lf u us r (row_start us r) (row_of us r) lf (row_is us r (grind (arith, nat_tests, feeds-cons u us)))))
   | inr no_lf ↦ subst (IsRowAt (u ∷ us) (suc r) (row_start (u ∷ us) (suc r))) (sym (row_of_later u us r no_lf)) (subst (λ (s : ℕ). IsRowAt (u ∷ us) (suc r) s (row_of us (suc r))) (sym (row_start_later u us r no_lf))
-      (row_later u us r (row_start us (suc r)) (row_of us (suc r)) no_lf (row_is us (suc r) (grind (arith, nat_tests, feeds-cons u us))))) ]
+      (row_later u us r (row_start us (suc r)) (row_of us (suc r)) no_lf (row_is us (suc r) (grind (arith, nat_tests, feeds-cons u us)))))
+]
 
 -- one row starts behind the line feed of the row before it, and the last row ends with the text
 pub row_start_next : (t : List ℕ) (r : ℕ) → r ≤ feeds t → row_start t (r + 1) ≡ row_start t r + length (row_of t r) + 1
@@ -137,10 +141,11 @@ row_start_next t r le = sum_by_more row_size (rows_of t) r [] (omega (arith, len
 rows_total : (t : List ℕ) → row_start t (suc (feeds t)) ≡ suc (length t)
 rows_total [] = refl
 rows_total (u ∷ us) = elim (cases_Bool (is_lf u)) [
-    inl lf ↦ let n : suc (feeds us) ≡ feeds (u ∷ us) = grind (arith, nat_tests, feeds-cons u us) in
+  | inl lf ↦ let n : suc (feeds us) ≡ feeds (u ∷ us) = grind (arith, nat_tests, feeds-cons u us) in
       subst (λ (k : ℕ). row_start (u ∷ us) (suc k) ≡ suc (suc (length us))) n (row_start_behind_lf u us (suc (feeds us)) lf ∙ ap suc (rows_total us))
   | inr no_lf ↦ let n : feeds us ≡ feeds (u ∷ us) = grind (arith, nat_tests, feeds-cons u us) in
-      subst (λ (k : ℕ). row_start (u ∷ us) (suc k) ≡ suc (suc (length us))) n (row_start_later u us (feeds us) no_lf ∙ ap suc (rows_total us)) ]
+      subst (λ (k : ℕ). row_start (u ∷ us) (suc k) ≡ suc (suc (length us))) n (row_start_later u us (feeds us) no_lf ∙ ap suc (rows_total us))
+]
 
 pub row_end_last : (t : List ℕ) → row_start t (feeds t) + length (row_of t (feeds t)) ≡ length t
 row_end_last t = let n : suc (feeds t) ≡ feeds t + 1 = omega arith in omega (arith, subst (λ (k : ℕ). row_start t k ≡ suc (length t)) n (rows_total t), row_start_next t (feeds t) (omega arith))
@@ -174,14 +179,15 @@ in_row_later u us i r c no_lf h = record {
 
 in_row_unit : (u : ℕ) (us : List ℕ) (i r c : ℕ) → is_lf u ≡ false → IsInRow us i (at_row_column r c) → extent (take i us) ≡ at_row_column r c → IsInRow (u ∷ us) (suc i) (extent (u ∷ take i us))
 in_row_unit u us i zero c no_lf h e = subst (IsInRow (u ∷ us) (suc i)) (sym (extent_unit u (take i us) no_lf (ap (λ (p : Point). p.row) e) ∙ ap (λ (p : Point). at_row_column 0 (suc p.column)) e))
-  (in_row_first u us i (at_row_column 0 c) no_lf refl h)
+    (in_row_first u us i (at_row_column 0 c) no_lf refl h)
 in_row_unit u us i (suc r) c no_lf h e = subst (IsInRow (u ∷ us) (suc i)) (sym (extent_unit_before_lf u (take i us) no_lf (let rows = ap (λ (p : Point). p.row) e in omega (arith, rows)) ∙ e))
-  (in_row_later u us i r c no_lf h)
+    (in_row_later u us i r c no_lf h)
 
 -- every offset lies in the row of its point
 pub in_row : (t : List ℕ) (i : ℕ) → i ≤ length t → IsInRow t i (point_at t i)
 in_row t zero le = record { row = omega arith; column = omega arith; offset = refl }
 in_row [] (suc i) le = absurd (omega arith)
 in_row (u ∷ us) (suc i) le = let h = in_row us i (omega arith) in elim (cases_Bool (is_lf u)) [
-    inl lf ↦ subst (IsInRow (u ∷ us) (suc i)) (sym (extent_lf u (take i us) lf)) (in_row_lf u us i (point_at us i) lf h)
-  | inr no_lf ↦ in_row_unit u us i (feeds (take i us)) (behind (take i us)) no_lf h refl ]
+  | inl lf ↦ subst (IsInRow (u ∷ us) (suc i)) (sym (extent_lf u (take i us) lf)) (in_row_lf u us i (point_at us i) lf h)
+  | inr no_lf ↦ in_row_unit u us i (feeds (take i us)) (behind (take i us)) no_lf h refl
+]

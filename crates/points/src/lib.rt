@@ -7,6 +7,8 @@
 mod memory;
 mod point;
 mod range;
+#[cfg(test)]
+mod tests;
 mod units;
 
 pub use memory::NoMemory;

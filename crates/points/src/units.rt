@@ -2,10 +2,9 @@ ghost use Rattle.std.specs.Prelude.{◌≡◌, ℕ, List, [], ◌++◌, length, 
 ghost use Rattle.std.specs.Char.Escape.{encode_utf16};
 ghost use Rattle.points.specs.Text.{utf16_of, text_of};
 
+use crate::memory::NoMemory;
 use std::alloc::{AllocError, Global};
 use std::marker::Model;
-
-use crate::memory::NoMemory;
 
 /// A list of UTF-16 units. It need not be well-formed.
 #[derive(Debug, Drop)]

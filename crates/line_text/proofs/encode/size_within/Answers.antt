@@ -11,26 +11,26 @@ use Rattle.line_text.proofs.encode.size_within.Goals as goal
 
 pub returns-then-room-size : goal.returns-then-room-size
 returns-then-room-size c = let text = YieldsList-from_chars c.args.text.now c.utf8.text cc in
-  let before = YieldsList-so_far text c.loop-c.yielded _ c.loop-c.yielded_by in
-  let turn = YieldsList-turn text c.loop-c.yielded _ c.loop-c.yielded_by _ _ c.in-Some.c c.in-Some.is c.next.ensures.steps in
-  let fits = next_fits (chars c.args.text.now) c.loop-c.yielded c.in-Some.c before turn in
-  let more = length-encode c.in-Some.c c.len_utf16.result c.len_utf16.ensures.bmp c.len_utf16.ensures.surrogate_pair in
-  let units = ap (λ (s : Size). s.units) c.loop-c.invariant.counted in
-  λ h. omega (arith, fits, more, units, c.loop-c.invariant.fits)
+    let before = YieldsList-so_far text c.loop-c.yielded _ c.loop-c.yielded_by in
+    let turn = YieldsList-turn text c.loop-c.yielded _ c.loop-c.yielded_by _ _ c.in-Some.c c.in-Some.is c.next.ensures.steps in
+    let fits = next_fits (chars c.args.text.now) c.loop-c.yielded c.in-Some.c before turn in
+    let more = length-encode c.in-Some.c c.len_utf16.result c.len_utf16.ensures.bmp c.len_utf16.ensures.surrogate_pair in
+    let units = ap (λ (s : Size). s.units) c.loop-c.invariant.counted in
+    λ h. omega (arith, fits, more, units, c.loop-c.invariant.fits)
 
 pub loop-c-preserved-then-c-eq10 : goal.loop-c-preserved-then-c-eq10
 loop-c-preserved-then-c-eq10 c = let more = length-encode c.in-Some.c c.len_utf16.result c.len_utf16.ensures.bmp c.len_utf16.ensures.surrogate_pair in
-  let more_again = length-encode c.in-Some.c c.len_utf16-in-loop-c.result c.len_utf16-in-loop-c.ensures.bmp c.len_utf16-in-loop-c.ensures.surrogate_pair in
-  let units = ap (λ (s : Size). s.units) c.loop-c.invariant.counted in
-  let line_feeds = ap (λ (s : Size). s.feeds) c.loop-c.invariant.counted in
-  record {
-    counted = same_size _ (size_of (utf16 (c.loop-c.yielded ++ c.in-Some.c ∷ []))) (omega (arith, units, more_again, length-utf16_push c.loop-c.yielded c.in-Some.c))
-      (omega (arith, line_feeds, feeds-utf16_push c.loop-c.yielded c.in-Some.c, feeds-encode_lf c.in-Some.c c.if-c-eq10.true));
-    fits = omega (arith, more, more_again, c.loop-c.invariant.fits, c.if-room-size.false);
-  }
+    let more_again = length-encode c.in-Some.c c.len_utf16-in-loop-c.result c.len_utf16-in-loop-c.ensures.bmp c.len_utf16-in-loop-c.ensures.surrogate_pair in
+    let units = ap (λ (s : Size). s.units) c.loop-c.invariant.counted in
+    let line_feeds = ap (λ (s : Size). s.feeds) c.loop-c.invariant.counted in
+    record {
+      counted = same_size _ (size_of (utf16 (c.loop-c.yielded ++ c.in-Some.c ∷ []))) (omega (arith, units, more_again, length-utf16_push c.loop-c.yielded c.in-Some.c))
+          (omega (arith, line_feeds, feeds-utf16_push c.loop-c.yielded c.in-Some.c, feeds-encode_lf c.in-Some.c c.if-c-eq10.true));
+      fits = omega (arith, more, more_again, c.loop-c.invariant.fits, c.if-room-size.false);
+    }
 
 pub returns : goal.returns
 returns c = let whole = YieldsList-end (YieldsList-from_chars c.args.text.now c.utf8.text cc) c.loop-c.yielded _ c.loop-c.yielded_by _ _ c.in-None.is c.next.ensures.steps in
-  let all = ap utf16 (sym (map-id c.loop-c.yielded) ∙ whole.0) in
-  let units = ap (λ (s : Size). s.units) c.loop-c.invariant.counted in
-  (omega (arith, units, ap length all, c.loop-c.invariant.fits), c.loop-c.invariant.counted ∙ ap size_of all)
+    let all = ap utf16 (sym (map-id c.loop-c.yielded) ∙ whole.0) in
+    let units = ap (λ (s : Size). s.units) c.loop-c.invariant.counted in
+    (omega (arith, units, ap length all, c.loop-c.invariant.fits), c.loop-c.invariant.counted ∙ ap size_of all)

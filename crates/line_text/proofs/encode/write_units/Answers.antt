@@ -9,11 +9,11 @@ use Rattle.line_text.proofs.encode.write_units.Goals as goal
 
 pub write_char-at-requires : goal.write_char-at-requires
 write_char-at-requires c = let text = YieldsList-from_chars c.args.text.now c.utf8.text cc in
-  let before = YieldsList-so_far text c.loop-c.yielded _ c.loop-c.yielded_by in
-  let turn = YieldsList-turn text c.loop-c.yielded _ c.loop-c.yielded_by _ _ c.in-Some.c c.in-Some.is c.next.ensures.steps in
-  omega (arith, next_fits (chars c.args.text.now) c.loop-c.yielded c.in-Some.c before turn, c.loop-c.invariant.at_end, c.loop-c.invariant.same_length, c.requires)
+    let before = YieldsList-so_far text c.loop-c.yielded _ c.loop-c.yielded_by in
+    let turn = YieldsList-turn text c.loop-c.yielded _ c.loop-c.yielded_by _ _ c.in-Some.c c.in-Some.is c.next.ensures.steps in
+    omega (arith, next_fits (chars c.args.text.now) c.loop-c.yielded c.in-Some.c before turn, c.loop-c.invariant.at_end, c.loop-c.invariant.same_length, c.requires)
 
 pub returns : goal.returns
 returns c = let whole = YieldsList-end (YieldsList-from_chars c.args.text.now c.utf8.text cc) c.loop-c.yielded _ c.loop-c.yielded_by _ _ c.in-None.is c.next.ensures.steps in
-  let all = ap utf16 (sym (map-id c.loop-c.yielded) ∙ whole.0) in
-  sym (take_all c.loop-c.at c.loop-c.into (omega (arith, c.loop-c.invariant.at_end, c.loop-c.invariant.same_length, c.requires, ap length all))) ∙ (c.loop-c.invariant.written ∙ all)
+    let all = ap utf16 (sym (map-id c.loop-c.yielded) ∙ whole.0) in
+    sym (take_all c.loop-c.at c.loop-c.into (omega (arith, c.loop-c.invariant.at_end, c.loop-c.invariant.same_length, c.requires, ap length all))) ∙ (c.loop-c.invariant.written ∙ all)

@@ -16,5 +16,5 @@ returns-then-row-last c = let s = c.args.self in omega (arith, end_kept s.units.
 
 pub returns-else-row-last : goal.returns-else-row-last
 returns-else-row-last c = let s = c.args.self in
-  let last : feeds s.units.now ≡ c.args.row = omega arith in
-  sym (subst (λ (r : ℕ). row_start s.units.now r + length (row_of s.units.now r) ≡ length s.units.now) last (row_end_last s.units.now))
+    let last : feeds s.units.now ≡ c.args.row = omega arith in
+    sym (subst (λ (r : ℕ). row_start s.units.now r + length (row_of s.units.now r) ≡ length s.units.now) last (row_end_last s.units.now))

@@ -12,5 +12,5 @@ overflow_sub-column c = let at = in_row c.args.self.units.now c.args.offset c.re
 
 pub returns : goal.returns
 returns c = let at = in_row c.args.self.units.now c.args.offset c.requires in
-  same_coordinates (at_row_column c.row_at-row.result (c.args.offset - c.start.result)) (point_at c.args.self.units.now c.args.offset)
+    same_coordinates (at_row_column c.row_at-row.result (c.args.offset - c.start.result)) (point_at c.args.self.units.now c.args.offset)
     c.row_at-row.ensures (omega (arith, at.offset, start_is c))

@@ -11,6 +11,6 @@ slice_bounds-result-end c = let s = c.args.self in let row = row_is s.units.now 
 
 pub returns : goal.returns
 returns c = let s = c.args.self in let row = row_is s.units.now c.args.row c.requires in
-  let len : length (row_of s.units.now c.args.row) ≡ c.end.result - c.start.result = omega arith in
-  subst (λ (n : ℕ). take n (drop c.start.result s.units.now) ≡ row_of s.units.now c.args.row) len
+    let len : length (row_of s.units.now c.args.row) ≡ c.end.result - c.start.result = omega arith in
+    subst (λ (n : ℕ). take n (drop c.start.result s.units.now) ≡ row_of s.units.now c.args.row) len
     (subst (λ (n : ℕ). take (length (row_of s.units.now c.args.row)) (drop n s.units.now) ≡ row_of s.units.now c.args.row) (sym c.start.ensures) row.units)
