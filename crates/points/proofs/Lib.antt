@@ -6,3 +6,4 @@ pub mod ClipLemmas
 pub mod TextLemmas
 pub mod WellFormedLemmas
 pub mod EndingLemmas
+pub mod DistanceLemmas
