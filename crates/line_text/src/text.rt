@@ -48,6 +48,7 @@ impl LineText {
     pub fn from_str(alloc: Global, text: &str) -> Result<Self, TextRefusal>
         ensures ok { IfOk result (λ made. made ≡ utf16_of text.now) }
         ensures too_long { (result ≡ Err TextRefusal.TooLong) ↔ (2 ^ 24 < length (utf16_of text.now)) }
+        ensures well_formed { IfOk result (λ made. IsWellFormed made) }
     {
         let Some(size) = size_within(text, MAX_UNITS) else {
             return Err(TextRefusal::TooLong);

@@ -46,6 +46,7 @@ extent_between t j k = sym (ap (λ (p : Point). traversal p (point_at t j)) led 
   where
     parts : take j t ++ take k (drop j t) ≡ take (j + k) t
     parts = ap (λ (xs : List ℕ). xs ++ take k (drop j t)) (sym (take-take j (j + k) t (omega arith))) ∙ (ap (λ (xs : List ℕ). take j (take (j + k) t) ++ xs) (sym (drop-take j k t)) ∙ take-append-drop j (take (j + k) t))
+
     led : point_at t (j + k) ≡ traverse (point_at t j) (extent (take k (drop j t)))
     led = ap extent (sym parts) ∙ extent-append (take j t) (take k (drop j t))
 
@@ -54,5 +55,6 @@ point_at-replaced_behind t i j k s within = ap extent cut ∙ (extent-append (ta
   where
     len : length (take i t ++ s) ≡ i + length s
     len = omega (arith, length-append (take i t) s, length-take-le i t within)
+
     cut : take (i + length s + k) (replaced t i j s) ≡ take i t ++ s ++ take k (drop j t)
     cut = ap (λ (n : ℕ). take (n + k) (replaced t i j s)) (sym len) ∙ take-append-add (take i t ++ s) (drop j t) k

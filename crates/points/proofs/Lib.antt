@@ -6,4 +6,5 @@ pub mod ClipLemmas
 pub mod TextLemmas
 pub mod WellFormedLemmas
 pub mod EndingLemmas
+pub mod MendingLemmas
 pub mod DistanceLemmas
