@@ -1,12 +1,12 @@
 -- One replacement in place: the kept starts, written and moved item by item.
-use Rattle.std.proofs.Common.{◌≡◌, ℕ, suc, ◌+◌, ◌-◌, ◌<◌, ◌≤◌, List, [], ◌∷◌, ◌++◌, length, take, drop, map, set, get_or, cond, eqb, Bool, true, false, refl, sym, ap, ◌∙◌, subst, arith, length-append}
+use Rattle.std.proofs.Common.{◌≡◌, ℕ, ◌+◌, ◌<◌, List, [], ◌∷◌, ◌++◌, length, take, drop, map, set, get_or, cond, Bool, refl, sym, ap, ◌∙◌, subst, arith}
 use Rattle.std.proofs.lemmas.List.Sums.{count_by_more_yes, count_by_more_no, sum_by-take-le}
-use Rattle.std.proofs.lemmas.List.{append-nil, take_more, take_more_set, map_more, drop-set-lt, get_or-drop, length-take-le}
+use Rattle.std.proofs.lemmas.List.{append-nil, take_more, take_more_set, map_more, get_or-drop, length-take-le}
 use Rattle.std.proofs.lemmas.Bool.{eq-eqb, ne_eqb}
 use Rattle.points.specs.Text.{is_lf}
-use Rattle.points.proofs.ExtentLemmas.{feeds, feeds-append, feeds-cons}
+use Rattle.points.proofs.ExtentLemmas.{feeds}
 use Rattle.line_text.specs.Starts.{starts_from}
-use Rattle.line_text.proofs.StartLemmas.{starts-append, length-starts}
+use Rattle.line_text.proofs.StartLemmas.{starts-append}
 
 -- lists with the same rest have the same next item
 same_next : (xs ys : List ℕ) (i : ℕ) → drop i xs ≡ drop i ys → get_or xs i 0 ≡ get_or ys i 0

@@ -1,13 +1,13 @@
 -- A text that is encoded character by character: what the units so far and the next character's take.
-use Rattle.std.proofs.Common.{◌≡◌, ℕ, suc, ◌+◌, ◌-◌, ◌/◌, ◌%◌, Bool, inl, inr, ◌<◌, ◌≤◌, List, [], ◌∷◌, ◌++◌, length, take, drop, get_or, map, cond, refl, sym, ap, ◌∙◌, subst, arith, length-append}
+use Rattle.std.proofs.Common.{◌≡◌, ℕ, ◌+◌, ◌-◌, ◌/◌, ◌%◌, Bool, inl, inr, ◌<◌, ◌≤◌, List, [], ◌∷◌, ◌++◌, length, take, drop, get_or, map, cond, refl, sym, ap, ◌∙◌, subst, arith, length-append}
 use Rattle.std.specs.Char.Escape.{encode_utf16}
 use Rattle.std.proofs.lemmas.List.{take-append-drop, drop_more, map-id}
 use Rattle.std.proofs.lemmas.Bool.Decides.{nat_tests}
 use Rattle.std.proofs.lemmas.Bool.{cases_lt, lt-ltb, le-ltb}
-use Rattle.points.specs.Text.{utf16, is_lf}
+use Rattle.points.specs.Text.{utf16}
 use Rattle.line_text.specs.declared.encode.Size.{Size}
 use Rattle.points.proofs.TextLemmas.{utf16-append}
-use Rattle.points.proofs.ExtentLemmas.{feeds, feeds-append, feeds-cons}
+use Rattle.points.proofs.ExtentLemmas.{feeds, feeds-append}
 
 pub length-utf16_push : (ys : List ℕ) (c : ℕ) → length (utf16 (ys ++ c ∷ [])) ≡ length (utf16 ys) + length (encode_utf16 c)
 length-utf16_push ys c = ap length (utf16-append ys (c ∷ [])) ∙ (length-append (utf16 ys) (encode_utf16 c ++ []) ∙ omega (arith, length-append (encode_utf16 c) []))

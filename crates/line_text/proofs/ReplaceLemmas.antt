@@ -1,11 +1,11 @@
 -- One replacement: the starts of the rows before it, in it and behind it.
-use Rattle.std.proofs.Common.{◌≡◌, ℕ, suc, ◌+◌, ◌-◌, ◌<◌, ◌≤◌, ◌^◌, List, [], ◌∷◌, ◌++◌, length, take, drop, map, get_or, cond, refl, sym, ap, ◌∙◌, subst, arith, length-append, length-drop, vec_len}
-use Rattle.std.proofs.lemmas.List.{take-take, take_at, drop_at, drop-append-le, length-take-le, get_or_default, append_assoc}
+use Rattle.std.proofs.Common.{◌≡◌, ℕ, suc, ◌+◌, ◌-◌, ◌<◌, ◌≤◌, ◌^◌, List, ◌++◌, length, take, drop, map, get_or, cond, sym, ap, ◌∙◌, subst, arith, length-drop}
+use Rattle.std.proofs.lemmas.List.{take-take, take_at, drop_at, length-take-le, get_or_default, append_assoc}
 use Rattle.std.proofs.lemmas.List.Sums.{sum_by-take-le}
 use Rattle.points.specs.Text.{is_lf, replaced}
-use Rattle.points.specs.Place.{row_start, row_of}
+use Rattle.points.specs.Place.{row_start}
 use Rattle.points.proofs.ExtentLemmas.{feeds}
-use Rattle.points.proofs.RowLemmas.{IsRowAt, row_is}
+use Rattle.points.proofs.RowLemmas.{row_is}
 use Rattle.line_text.specs.Starts.{starts_from, starts_of, CanMove}
 use Rattle.line_text.proofs.StartLemmas.{length-starts, start_at, starts-moved, starts-replaced, take-starts, drop-starts}
 

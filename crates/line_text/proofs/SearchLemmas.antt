@@ -1,12 +1,11 @@
 -- What the kept starts of rows tell: a row's start and end, and the row of an offset.
-use Rattle.std.proofs.Common.{◌≡◌, ℕ, suc, zero, ◌+◌, ◌-◌, ◌<◌, ◌≤◌, ◌⊎◌, List, [], ◌∷◌, length, take, get_or, leb, Bool, true, false, refl, sym, ap, ◌∙◌, inl, inr, subst, arith}
+use Rattle.std.proofs.Common.{◌≡◌, ℕ, suc, ◌+◌, ◌-◌, ◌<◌, ◌≤◌, List, length, take, get_or, leb, true, false, ap, ◌∙◌, inl, inr, arith}
 use Rattle.std.specs.List.Sorted.{IsPartitionedBy, IsPartitionPoint}
 use Rattle.std.proofs.lemmas.List.{get_or_default}
 use Rattle.std.proofs.lemmas.Bool.{cases_order, leb-true, leb-false, le-leb}
-use Rattle.points.specs.declared.point.Point.{Point}
-use Rattle.points.specs.Place.{row_of, row_start, point_at}
+use Rattle.points.specs.Place.{row_of, row_start}
 use Rattle.points.proofs.ExtentLemmas.{feeds}
-use Rattle.points.proofs.RowLemmas.{row_start_mono, row_start_next, IsInRow, in_row}
+use Rattle.points.proofs.RowLemmas.{row_start_mono, row_start_next, in_row}
 use Rattle.line_text.specs.Starts.{starts_of}
 use Rattle.line_text.proofs.StartLemmas.{length-starts, start_at}
 

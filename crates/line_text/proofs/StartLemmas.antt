@@ -1,11 +1,11 @@
 -- The kept starts of rows: where they stand, and what they are in a text that is put together from others.
-use Rattle.std.proofs.Common.{◌≡◌, ℕ, suc, zero, ◌+◌, ◌-◌, ◌<◌, ◌≤◌, ◌⊎◌, List, [], ◌∷◌, ◌++◌, length, take, drop, cond, map, get_or, Bool, true, false, refl, sym, ap, ◌∙◌, inl, inr, subst, arith, length-append}
-use Rattle.std.proofs.lemmas.List.{take-append-drop, length-map, map-append, take_at, drop_at, length-take-le}
+use Rattle.std.proofs.Common.{◌≡◌, ℕ, suc, zero, ◌+◌, ◌-◌, ◌<◌, ◌≤◌, List, [], ◌∷◌, ◌++◌, length, take, drop, cond, map, get_or, Bool, true, false, refl, sym, ap, ◌∙◌, inl, inr, arith, length-append}
+use Rattle.std.proofs.lemmas.List.{take-append-drop, take_at, drop_at, length-take-le}
 use Rattle.std.proofs.lemmas.Bool.{cases_Bool}
 use Rattle.std.proofs.lemmas.Bool.Decides.{nat_tests}
 use Rattle.points.specs.Text.{is_lf, replaced}
-use Rattle.points.specs.Place.{row_start, point_at}
-use Rattle.points.proofs.ExtentLemmas.{feeds, feeds-cons, feeds-append}
+use Rattle.points.specs.Place.{row_start}
+use Rattle.points.proofs.ExtentLemmas.{feeds, feeds-cons}
 use Rattle.points.proofs.RowLemmas.{row_start_behind_lf, row_start_later}
 use Rattle.line_text.specs.Starts.{starts_from, starts_of}
 

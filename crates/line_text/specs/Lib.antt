@@ -1,2 +1,3 @@
 pub mod Starts
 pub mod Size
+pub mod Ending

@@ -2,7 +2,7 @@
 //! are written into the gap, and only the starts behind the first edited row are mended.
 //!
 //! All memory is taken before anything is written, so a refusal leaves the text as it was.
-ghost use Rattle.std.specs.Prelude.{◌≡◌, ℕ, ◌+◌, ◌-◌, ◌<◌, ◌≤◌, ◌++◌, OnOk, OnErr, length, take, drop, map, ◌^◌, count_by, vec_len, vec_capacity};
+ghost use Rattle.std.specs.Prelude.{◌≡◌, ℕ, ◌+◌, ◌-◌, ◌<◌, ◌≤◌, ◌++◌, IfOk, OnOk, OnErr, length, take, drop, map, ◌^◌, count_by, vec_len, vec_capacity};
 ghost use Rattle.points.specs.Text.{is_lf, replaced, utf16_of};
 ghost use Rattle.line_text.specs.Size.{size_of};
 ghost use Rattle.line_text.specs.Starts.{starts_from, starts_of, CanMove};
@@ -46,6 +46,26 @@ pub(crate) fn replace_units(
         to as u32,
     );
     Ok(())
+}
+
+/// The starts of the rows of these units.
+pub(crate) fn starts_of(units: &Vec<u16>) -> Result<Vec<u32>, NoMemory>
+    requires { vec_len units.now ≤ 2 ^ 24 }
+    ensures { IfOk result (λ starts. starts.items ≡ starts_of units.now.items) }
+{
+    let mut starts = Vec::new(*units.allocator());
+    let len = count_feeds(units.as_slice());
+    make_room(&mut starts, len, 0)?;
+    open_gap(&mut starts, 0, 0, len, 0);
+    write_starts(starts.as_mut_slice(), units.as_slice(), 0);
+    Ok(starts)
+}
+
+// How many line feeds there are.
+fn count_feeds(units: &[u16]) -> usize
+    ensures { result ≡ count_by is_lf units.now }
+{
+    units.iter().filter(|unit| **unit == 10).count()
 }
 
 // The rows in which the offsets `from` and `to` lie.

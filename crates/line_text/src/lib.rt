@@ -7,11 +7,13 @@
 
 mod edit;
 mod encode;
+mod ending;
 mod refusal;
 mod rows;
 #[cfg(test)]
 mod tests;
 mod text;
 
+pub use ending::Ending;
 pub use refusal::TextRefusal;
 pub use text::{LineText, MAX_UNITS, Replaced};

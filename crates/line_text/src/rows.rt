@@ -6,8 +6,10 @@ ghost use Rattle.std.specs.Prelude.{◌≡◌, ℕ, ◌+◌, ◌-◌, ◌<◌, �
 ghost use Rattle.std.specs.Char.Utf16.{is_high_surrogate, is_low_surrogate};
 ghost use Rattle.points.specs.Text.{is_lf};
 ghost use Rattle.points.specs.Place.{extent, point_at, offset_of, row_of, row_start, ends_with_cr, line_of, splits_pair, clipped_column, clip, clipped_offset};
+ghost use Rattle.line_text.specs.Ending.{ending_of};
 ghost use Rattle.line_text.specs.Starts.{starts_of};
 
+use crate::ending::Ending;
 use points::{Point, Range};
 
 /// The units of a text and the starts of its rows, lent.
@@ -31,7 +33,8 @@ impl<'a> Rows<'a> {
 
     /// The last row: as many rows stand before it as there are line feeds.
     pub(crate) fn last(self) -> usize
-        ensures { result ≡ count_by is_lf self.entry.units.now }
+        ensures value { result ≡ count_by is_lf self.entry.units.now }
+        ensures within { result ≤ length self.entry.units.now }
     {
         self.starts.len()
     }
@@ -109,6 +112,20 @@ impl<'a> Rows<'a> {
         }
     }
 
+    /// How `row` ends.
+    pub(crate) fn ending(self, row: usize) -> Ending
+        requires { row ≤ count_by is_lf self.units.now }
+        ensures { result ≡ ending_of self.entry.units.now row }
+    {
+        if row == self.last() {
+            Ending::Last
+        } else if ends_with_cr(self.row(row)) {
+            Ending::CrLf
+        } else {
+            Ending::Lf
+        }
+    }
+
     // The units of `row`, with a carriage return of its ending.
     fn row(self, row: usize) -> &'a [u16]
         requires { row ≤ count_by is_lf self.units.now }
@@ -166,6 +183,13 @@ fn without_cr(units: &[u16]) -> &[u16]
         [line @ .., 13] => line,
         _ => units,
     }
+}
+
+// Whether a carriage return stands at the end of these units.
+fn ends_with_cr(units: &[u16]) -> bool
+    ensures { result ≡ ends_with_cr units.now }
+{
+    matches!(units, [.., 13])
 }
 
 // The column of a line that `column` is clipped to: within the line, and outside a pair.

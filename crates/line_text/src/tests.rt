@@ -1,5 +1,5 @@
-use crate::{LineText, MAX_UNITS, Replaced, TextRefusal};
-use points::{Point, Range};
+use crate::{Ending, LineText, MAX_UNITS, Replaced, TextRefusal};
+use points::{Point, Range, Units};
 use std::alloc::Global;
 use std::process::Abort;
 use std::test::Fail;
@@ -116,6 +116,52 @@ fn finds_points_and_offsets(rt: HostRuntime) -> Result<(), Fail> {
     for (point, expected) in clipped {
         assert_eq!(rt; text.clip(point), expected, "at {point:?}");
     }
+    Ok(())
+}
+
+#[test]
+fn tells_lines_and_endings(rt: HostRuntime) -> Result<(), Fail> {
+    // A carriage return ends no row by itself, also at the end of the text.
+    let text = LineText::from_str(rt.alloc(), "a\rb\r\n\nc\n\r\nd\r")?;
+    let rows = [
+        ("a\rb", Ending::CrLf),
+        ("", Ending::Lf),
+        ("c", Ending::Lf),
+        ("", Ending::CrLf),
+        ("d\r", Ending::Last),
+    ];
+    let mut row = 0;
+    for (line, ending) in rows {
+        let expected = Units::from_str(rt.alloc(), line)?;
+        assert_eq!(rt; text.line(row), Some(expected.as_slice()), "in row {row}");
+        assert_eq!(rt; text.ending(row), Some(ending), "in row {row}");
+        row += 1;
+    }
+    assert_eq!(rt;
+        (text.rows(), text.line(5), text.ending(5)),
+        (5, None, None)
+    );
+
+    // The last row of a text that ends with a line feed is empty.
+    let text = LineText::from_str(rt.alloc(), "x\n")?;
+    assert_eq!(rt;
+        (text.rows(), text.ending(0), text.ending(1)),
+        (2, Some(Ending::Lf), Some(Ending::Last))
+    );
+    assert_eq!(rt; text.line(1), Some([].as_slice()));
+    Ok(())
+}
+
+#[test]
+fn takes_units_that_are_not_well_formed(rt: HostRuntime) -> Result<(), Fail> {
+    let mut units = Units::new(rt.alloc());
+    units.append(&[0xd83d, 10, 0xde00, 97])?;
+    let text = LineText::from_units(units)?;
+    assert_eq!(rt; text.to_text()?.as_str(), "\u{fffd}\n\u{fffd}a");
+    assert_eq!(rt;
+        (text.rows(), text.extent(), text.line(1)),
+        (2, at(1, 2), Some([0xde00, 97].as_slice()))
+    );
     Ok(())
 }
 

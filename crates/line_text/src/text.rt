@@ -1,12 +1,14 @@
-ghost use Rattle.std.specs.Prelude.{◌≡◌, ℕ, ◌+◌, ◌<◌, ◌≤◌, ◌↔◌, ◌^◌, List, length, slice_range, Option, IfOk, OnOk, OnErr};
-ghost use Rattle.points.specs.Text.{utf16_of, replaced};
-ghost use Rattle.points.specs.Place.{extent, point_at, offset_of, clip, clipped_offset};
+ghost use Rattle.std.specs.Prelude.{◌≡◌, ℕ, ◌+◌, ◌<◌, ◌≤◌, ◌↔◌, ◌^◌, List, length, slice_range, string_bytes, Option, IsNone, IfSome, IfOk, OnOk, OnErr};
+ghost use Rattle.points.specs.Text.{IsWellFormed, text_of, utf16_of, replaced};
+ghost use Rattle.points.specs.Place.{extent, point_at, offset_of, line_of, clip, clipped_offset};
+ghost use Rattle.line_text.specs.Ending.{ending_of};
 
-use crate::edit::replace_units;
+use crate::edit::{replace_units, starts_of};
 use crate::encode::size_within;
+use crate::ending::Ending;
 use crate::refusal::TextRefusal;
 use crate::rows::Rows;
-use points::{Point, Range};
+use points::{NoMemory, Point, Range, Units};
 use std::alloc::Global;
 use std::marker::Model;
 
@@ -46,6 +48,7 @@ impl LineText {
     pub fn from_str(alloc: Global, text: &str) -> Result<Self, TextRefusal>
         ensures ok { IfOk result (λ made. made ≡ utf16_of text.now) }
         ensures too_long { (result ≡ Err TextRefusal.TooLong) ↔ (2 ^ 24 < length (utf16_of text.now)) }
+        ensures well_formed { IfOk result (λ made. IsWellFormed made) }
     {
         let Some(size) = size_within(text, MAX_UNITS) else {
             return Err(TextRefusal::TooLong);
@@ -53,6 +56,19 @@ impl LineText {
         let mut units = Vec::new(alloc);
         let mut starts = Vec::new(alloc);
         replace_units(&mut units, &mut starts, 0, 0, text, size)?;
+        Ok(LineText { units, starts })
+    }
+
+    /// The text of these units. They need not be well-formed.
+    pub fn from_units(units: Units) -> Result<Self, TextRefusal>
+        ensures ok { IfOk result (λ made. made ≡ units) }
+        ensures too_long { (result ≡ Err TextRefusal.TooLong) ↔ (2 ^ 24 < length units) }
+    {
+        if units.len() > MAX_UNITS {
+            return Err(TextRefusal::TooLong);
+        }
+        let units = units.into_vec();
+        let starts = starts_of(&units)?;
         Ok(LineText { units, starts })
     }
 
@@ -69,6 +85,37 @@ impl LineText {
         ensures { result ≡ extent self.now }
     {
         self.rows_kept().extent()
+    }
+
+    /// How many rows there are: one more than line feeds.
+    pub fn rows(&self) -> u32
+        ensures { result ≡ (extent self.now).row + 1 }
+    {
+        self.rows_kept().last() as u32 + 1
+    }
+
+    /// The units of a row without its ending, lent.
+    pub fn line(&self, row: u32) -> Option<&[u16]>
+        ensures outside { IsNone result ↔ ((extent self.now).row < row) }
+        ensures line { IfSome result (λ line. line.now ≡ line_of self.now row) }
+    {
+        let rows = self.rows_kept();
+        if row as usize > rows.last() {
+            return None;
+        }
+        Some(rows.line(row as usize))
+    }
+
+    /// How a row ends.
+    pub fn ending(&self, row: u32) -> Option<Ending>
+        ensures outside { IsNone result ↔ ((extent self.now).row < row) }
+        ensures ending { IfSome result (λ ending. ending ≡ ending_of self.now row) }
+    {
+        let rows = self.rows_kept();
+        if row as usize > rows.last() {
+            return None;
+        }
+        Some(rows.ending(row as usize))
     }
 
     /// The point at an offset.
@@ -115,6 +162,7 @@ impl LineText {
         ensures too_long { (result ≡ Err TextRefusal.TooLong) ↔ (2 ^ 24 < length (replaced self.old
             (clipped_offset self.old range.start) (clipped_offset self.old range.end) (utf16_of text.now))) }
         ensures err { OnErr result (self.new ≡ self.old) }
+        ensures well_formed { IsWellFormed self.old → OnOk result (IsWellFormed self.new) }
     {
         let rows = self.rows_kept();
         let (from, to) = rows.span(range);
@@ -130,6 +178,15 @@ impl LineText {
             to: end,
             end: self.point_at(from + size.units),
         })
+    }
+
+    /// The text, with U+FFFD in place of each surrogate that lacks its partner.
+    pub fn to_text(&self) -> Result<String, NoMemory>
+        ensures { IfOk result (λ text. string_bytes text ≡ text_of self.now) }
+    {
+        let alloc = *self.units.allocator();
+        let text = String::from_utf16_lossy(alloc, self.units.as_slice())?;
+        Ok(text)
     }
 
     // The units and the starts of rows, for a look-up.

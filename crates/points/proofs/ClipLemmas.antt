@@ -1,15 +1,14 @@
 -- Where clipped points stand: at an offset of the text, in the order of the points that were clipped.
-use Rattle.std.proofs.Common.{◌≡◌, ℕ, suc, zero, ◌+◌, ◌-◌, ◌<◌, ◌≤◌, ◌⊎◌, List, [], ◌∷◌, ◌++◌, length, take, drop, cond, min, ltb, eqb, Option, Some, None, Bool, true, false, ◌&&◌, refl, sym, ap, ◌∙◌, inl, inr, subst, arith, length-take, unwrap_or, slice_index}
+use Rattle.std.proofs.Common.{◌≡◌, ℕ, ◌+◌, ◌-◌, ◌<◌, ◌≤◌, List, length, cond, min, ltb, Option, Some, None, Bool, true, sym, ap, ◌∙◌, inl, inr, subst, arith, length-take, unwrap_or}
 use Rattle.std.proofs.lemmas.Bool.{cases_Bool, cases_order, ltb-true, ltb-false, lt-ltb, le-ltb}
 use Rattle.std.proofs.lemmas.Bool.Decides.{nat_tests}
 use Rattle.points.specs.declared.point.Point.{Point}
 use Rattle.points.specs.Point.{point_le}
-use Rattle.points.specs.Text.{is_lf}
-use Rattle.points.specs.Place.{extent, point_at, offset_of, row_of, row_start, line_of, ends_with_cr, splits_pair, clipped_column, clip, clipped_offset}
+use Rattle.points.specs.Place.{extent, point_at, offset_of, row_of, row_start, line_of, splits_pair, clipped_column, clip, clipped_offset}
 use Rattle.points.proofs.ExtentLemmas.{feeds}
 use Rattle.points.proofs.PointLemmas.{at_row_column, point_le_cases}
 use Rattle.points.proofs.OffsetLemmas.{offset_of-at, offset_of-nowhere, point_at_le}
-use Rattle.points.proofs.RowLemmas.{row_start_mono, row_start_next, row_end_last, IsRowAt, row_is, IsInRow, in_row}
+use Rattle.points.proofs.RowLemmas.{row_start_mono, row_start_next, row_is, in_row}
 use Rattle.std.proofs.lemmas.List.{take_all}
 
 -- the offset of a row's point

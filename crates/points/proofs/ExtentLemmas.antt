@@ -1,14 +1,13 @@
 -- The extent of a text that is put together from others.
-use Rattle.std.proofs.Common.{◌≡◌, ℕ, suc, ◌+◌, ◌-◌, ◌<◌, ◌≤◌, List, [], ◌∷◌, ◌++◌, length, take, drop, cond, eqb, Bool, true, false, not, sum_by, count_by, refl, sym, ap, ◌∙◌, arith, length-append, reverse}
+use Rattle.std.proofs.Common.{◌≡◌, ℕ, ◌+◌, ◌<◌, List, [], ◌∷◌, ◌++◌, length, cond, eqb, Bool, not, count_by, refl, ap, ◌∙◌, arith, reverse}
 use Rattle.std.specs.List.{suffix_len, prefix_len}
 use Rattle.std.proofs.lemmas.List.{reverse-append, length-reverse}
 use Rattle.std.proofs.lemmas.Grind.{reverse_onto}
 use Rattle.std.proofs.lemmas.List.Sums.{sum_by-append, sum_by-cons, prefix_len-le-length}
 use Rattle.std.proofs.lemmas.List.Folds.{prefix_len-append}
 use Rattle.std.proofs.lemmas.Bool.Decides.{nat_tests}
-use Rattle.points.specs.declared.point.Point.{Point}
-use Rattle.points.specs.Point.{origin, traverse}
-use Rattle.points.specs.Text.{is_lf, LF}
+use Rattle.points.specs.Point.{traverse}
+use Rattle.points.specs.Text.{is_lf}
 use Rattle.points.specs.Place.{extent}
 
 abbrev pub is_no_lf : ℕ → Bool

@@ -4,3 +4,7 @@ pub mod OffsetLemmas
 pub mod RowLemmas
 pub mod ClipLemmas
 pub mod TextLemmas
+pub mod WellFormedLemmas
+pub mod EndingLemmas
+pub mod MendingLemmas
+pub mod DistanceLemmas

@@ -1,6 +1,6 @@
 -- The rows of a text: where each starts, which units it has, and which points lie in it.
-use Rattle.std.proofs.Common.{◌≡◌, ℕ, suc, zero, ◌+◌, ◌-◌, ◌<◌, ◌≤◌, ◌⊎◌, List, [], ◌∷◌, ◌++◌, length, take, drop, cond, sum_by, Bool, true, false, refl, sym, ap, ◌∙◌, inl, inr, subst, arith}
-use Rattle.std.specs.List.{slice_split, onto_first, slice_index_or}
+use Rattle.std.proofs.Common.{◌≡◌, ℕ, suc, zero, ◌+◌, ◌<◌, ◌≤◌, List, [], ◌∷◌, length, take, drop, sum_by, true, false, refl, sym, ap, ◌∙◌, inl, inr, subst, arith}
+use Rattle.std.specs.List.{onto_first, slice_index_or}
 use Rattle.std.proofs.lemmas.List.{take-take}
 use Rattle.std.proofs.lemmas.List.Splits.{slice_split-cons_yes, slice_split-cons_no, length-slice_split}
 use Rattle.std.proofs.lemmas.List.Sums.{sum_by-cons, sum_by-take-le, sum_by_more}
@@ -9,8 +9,8 @@ use Rattle.std.proofs.lemmas.Bool.Decides.{nat_tests}
 use Rattle.points.specs.declared.point.Point.{Point}
 use Rattle.points.specs.Text.{is_lf}
 use Rattle.points.specs.Place.{extent, point_at, rows_of, row_of, row_start}
-use Rattle.points.proofs.ExtentLemmas.{feeds, behind, feeds-cons, behind-append, extent-append}
-use Rattle.points.proofs.PointLemmas.{at_row_column, same_coordinates}
+use Rattle.points.proofs.ExtentLemmas.{feeds, behind, feeds-cons, extent-append}
+use Rattle.points.proofs.PointLemmas.{at_row_column}
 
 -- how far a row and its line feed reach
 abbrev pub row_size : List ℕ → ℕ

@@ -1,5 +1,5 @@
 -- Places in a text: the point of an offset and the offset of a point, rows and their endings, clipping.
-use Rattle.std.specs.Prelude.{ℕ, ◌+◌, ◌-◌, ◌==◌, ◌&&◌, min, List, [], ◌∷◌, length, take, count_by, sum_by, find, slice_index, nat_lt, Bool, not, if◌then◌else◌, Option, unwrap_or}
+use Rattle.std.specs.Prelude.{ℕ, ◌+◌, ◌-◌, ◌==◌, ◌&&◌, min, List, [], length, take, count_by, sum_by, find, slice_index, nat_lt, Bool, not, if◌then◌else◌, Option, unwrap_or}
 use Rattle.std.specs.List.{suffix_len, slice_split, slice_index_or, range_with_len}
 use Rattle.std.specs.Char.Utf16.{is_high_surrogate, is_low_surrogate}
 use Rattle.points.specs.declared.point.Point.{Point}

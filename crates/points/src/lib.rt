@@ -4,6 +4,8 @@
 //! A point counts the rows before it, and the units since its row began.
 #![tactic(auto)]
 
+mod distance;
+pub mod laws;
 mod memory;
 mod point;
 mod range;
@@ -11,6 +13,7 @@ mod range;
 mod tests;
 mod units;
 
+pub use distance::{extent_of, traversal, traverse};
 pub use memory::NoMemory;
 pub use point::{MAX_COORD, Point};
 pub use range::Range;

@@ -1,4 +1,4 @@
-use crate::{Point, Range, Units};
+use crate::{Point, Range, Units, extent_of, laws, traversal, traverse};
 use std::test::Fail;
 
 #[test]
@@ -9,6 +9,39 @@ fn makes_ranges_of_ordered_points(rt: HostRuntime) {
     let range = Range::new(start, end);
     assert_eq!(rt; (range.start, range.end), (start, end));
     assert!(rt; Point::default() < start);
+}
+
+#[test]
+fn leads_from_point_to_point(rt: HostRuntime) -> Result<(), Fail> {
+    let at = |row: u32, column: u32| Point { row, column };
+    let steps = [
+        (at(2, 5), at(0, 3), at(2, 8)),
+        (at(2, 5), at(1, 3), at(3, 3)),
+        (at(0, 0), at(4, 0), at(4, 0)),
+    ];
+    for (from, extent, to) in steps {
+        assert!(rt; from.row <= 2 && from.column <= 5 && extent.row <= 4 && extent.column <= 3);
+        assert_eq!(rt; traverse(from, extent), to);
+        assert!(rt; from <= to);
+        assert_eq!(rt; traversal(to, from), extent);
+        laws::inverse(from, extent);
+        laws::associative(from, extent, to);
+        laws::unit(from);
+    }
+    // A carriage return is a unit as any other.
+    let units = Units::from_str(rt.alloc(), "ab\r\nc\n\u{10437}")?;
+    assert!(rt; units.len() <= 9);
+    assert_eq!(rt; extent_of(units.as_slice()), at(2, 2));
+    assert_eq!(rt; extent_of(&[]), at(0, 0));
+    let items = units.as_slice();
+    laws::joined(items, items);
+    laws::found(items, at(1, 0), 4);
+    laws::clipped(items, at(0, 3));
+    laws::clipped_in_order(items, at(0, 3), at(1, 0));
+    laws::well_formed(items);
+    laws::mending(items);
+    assert_eq!(rt; units.into_vec().len(), 8);
+    Ok(())
 }
 
 #[test]

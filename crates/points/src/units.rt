@@ -53,6 +53,14 @@ impl Units {
         self.items.as_slice()
     }
 
+    /// The units as a vector, over the same allocator and memory.
+    pub fn into_vec(self) -> Vec<u16>
+        ensures { result.items ≡ self }
+    {
+        let Units { items } = self;
+        items
+    }
+
     /// Drops every unit. It takes no memory.
     pub fn clear(&mut self)
         ensures { self.new ≡ [] }

@@ -1,4 +1,4 @@
-use Rattle.std.proofs.Common.{◌+◌, ◌≡◌, ◌∙◌, ℕ, List, set, sym, subst, arith}
+use Rattle.std.proofs.Common.{◌+◌, ◌∙◌, ℕ, List, set, sym, subst, arith}
 use Rattle.line_text.proofs.EditLemmas.{IsWritten, written_lf, written_other}
 use Rattle.line_text.proofs.edit.write_starts.Goals as goal
 use Rattle.line_text.proofs.edit.write_starts.Goals.{then-unit-eq10, else-unit-eq10}

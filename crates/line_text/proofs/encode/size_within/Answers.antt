@@ -1,4 +1,4 @@
-use Rattle.std.proofs.Common.{◌≡◌, ◌+◌, ◌∷◌, [], ◌++◌, ℕ, List, length, sym, ap, ◌∙◌, subst, arith}
+use Rattle.std.proofs.Common.{◌∷◌, [], ◌++◌, length, sym, ap, ◌∙◌, arith}
 use Rattle.std.specs.Str.{chars}
 use Rattle.std.proofs.lemmas.Iterator.{YieldsList-from_chars}
 use Rattle.std.proofs.lemmas.Iterator.Consumers.{YieldsList-so_far, YieldsList-turn, YieldsList-end}
@@ -6,7 +6,7 @@ use Rattle.std.proofs.lemmas.List.{map-id}
 use Rattle.points.specs.Text.{utf16}
 use Rattle.line_text.specs.declared.encode.Size.{Size}
 use Rattle.line_text.specs.Size.{size_of}
-use Rattle.line_text.proofs.EncodeLemmas.{next_fits, length-encode, length-utf16_push, feeds-utf16_push, feeds-encode_lf, feeds-encode_other, same_size}
+use Rattle.line_text.proofs.EncodeLemmas.{next_fits, length-encode, length-utf16_push, feeds-utf16_push, feeds-encode_lf, same_size}
 use Rattle.line_text.proofs.encode.size_within.Goals as goal
 
 pub returns-then-room-size : goal.returns-then-room-size

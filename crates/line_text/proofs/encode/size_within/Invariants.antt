@@ -1,4 +1,4 @@
-use Rattle.std.proofs.Common.{◌≡◌, ◌≤◌, length}
+use Rattle.std.proofs.Common.{◌≡◌, ◌≤◌}
 use Rattle.points.specs.Text.{utf16}
 use Rattle.line_text.specs.Size.{size_of}
 use Rattle.line_text.proofs.encode.size_within.Given as goal

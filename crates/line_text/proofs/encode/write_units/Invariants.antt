@@ -1,4 +1,4 @@
-use Rattle.std.proofs.Common.{◌≡◌, ◌≤◌, length, take}
+use Rattle.std.proofs.Common.{◌≡◌, length, take}
 use Rattle.points.specs.Text.{utf16}
 use Rattle.line_text.proofs.encode.write_units.Given as goal
 

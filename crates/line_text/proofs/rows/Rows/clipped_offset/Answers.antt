@@ -1,6 +1,6 @@
 use Rattle.std.proofs.Common.{◌≡◌, ◌+◌, ◌∙◌, ℕ, List, sym, ap, arith}
 use Rattle.points.specs.Place.{row_start, line_of, clipped_column}
-use Rattle.points.proofs.ClipLemmas.{clipped_offset_past, clipped_offset_in, IsClippedAt, clipped_at}
+use Rattle.points.proofs.ClipLemmas.{clipped_offset_past, clipped_offset_in, clipped_at}
 use Rattle.line_text.proofs.rows.Rows.clipped_offset.Goals as goal
 
 sum_is : (c : goal.After-clipped_column) → c.start.result + c.clipped_column.result ≡ row_start c.args.self.units.now c.args.point.row + clipped_column (line_of c.args.self.units.now c.args.point.row) c.args.point.column

@@ -1,4 +1,4 @@
-use Rattle.std.proofs.Common.{◌≡◌, ◌+◌, ◌∙◌, ℕ, Some, sym, ap, arith}
+use Rattle.std.proofs.Common.{◌+◌, ◌∙◌, ℕ, Some, sym, ap, arith}
 use Rattle.points.proofs.ClipLemmas.{offset_of_row, offset_of_past_rows, offset_of_past_row}
 use Rattle.line_text.proofs.rows.Rows.offset_of.Goals as goal
 

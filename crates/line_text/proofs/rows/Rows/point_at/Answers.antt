@@ -1,7 +1,7 @@
-use Rattle.std.proofs.Common.{◌≡◌, ℕ, ◌-◌, ◌∙◌, ap, arith}
+use Rattle.std.proofs.Common.{◌≡◌, ◌-◌, ◌∙◌, ap, arith}
 use Rattle.points.specs.Place.{point_at, row_start}
 use Rattle.points.proofs.PointLemmas.{same_coordinates, at_row_column}
-use Rattle.points.proofs.RowLemmas.{IsInRow, in_row}
+use Rattle.points.proofs.RowLemmas.{in_row}
 use Rattle.line_text.proofs.rows.Rows.point_at.Goals as goal
 
 start_is : (c : goal.After-start) → c.start.result ≡ row_start c.args.self.units.now (point_at c.args.self.units.now c.args.offset).row

@@ -1,6 +1,6 @@
 use Rattle.std.proofs.Common.{◌≡◌, ℕ, ◌-◌, length, take, drop, sym, subst, arith}
-use Rattle.points.specs.Place.{row_of, row_start}
-use Rattle.points.proofs.RowLemmas.{IsRowAt, row_is}
+use Rattle.points.specs.Place.{row_of}
+use Rattle.points.proofs.RowLemmas.{row_is}
 use Rattle.line_text.proofs.rows.Rows.row.Goals as goal
 
 pub offset_bounds-units-start : goal.offset_bounds-units-start

@@ -1,5 +1,5 @@
 use Rattle.std.proofs.Common.{arith}
-use Rattle.points.proofs.ClipLemmas.{clipped_offset_mono, IsClippedAt, clipped_at}
+use Rattle.points.proofs.ClipLemmas.{clipped_offset_mono, clipped_at}
 use Rattle.line_text.proofs.rows.Rows.span.Goals as goal
 
 pub returns-clause-order : goal.returns-clause-order
