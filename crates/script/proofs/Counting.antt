@@ -1,11 +1,10 @@
 -- The parts of a JSON value: how many there are, and the range between two points.
-use Rattle.std.proofs.Common.{◌≡◌, ◌<◌, ◌≤◌, ℕ, suc, Bool, true, false, List, [], ◌∷◌, length, Option, Some, None, String, Global, IsTrue, refl, sym, ap, ◌∙◌, arith}
+use Rattle.std.proofs.Common.{◌≡◌, suc, Bool, true, false, List, [], ◌∷◌, length, Some, String, Global, refl, sym, ap, ◌∙◌}
 use Rattle.std.proofs.Math.Bool.{Bool-set}
 use Rattle.points.specs.declared.point.Point.{Point}
-use Rattle.points.specs.declared.range.Range.{Range}
 use Rattle.points.specs.Point.{point_le}
 use Rattle.script.specs.ScriptDocument.{count_members, member_count, count_items, item_count, range_by, range_between}
-use Rattle.serde_json.specs.Data.{Data, null, boolean, number, string, array, object, Items, Members}
+use Rattle.serde_json.specs.Data.{Data, null, boolean, number, string, array, object}
 use Rattle.serde_json.specs.Find.{as_array, as_object}
 use Rattle.serde_json.specs.View.{items_view, members_view}
 use Rattle.serde_json.specs.declared.value.Value.{Value}

@@ -1,12 +1,12 @@
 -- Which bytes are a document, and how it is refused.
-use Rattle.std.proofs.Common.{◌≡◌, ℕ, List, Bool, true, false, Option, Some, None, cond, refl, sym, ap, ◌∙◌}
+use Rattle.std.proofs.Common.{◌≡◌, ℕ, List, Bool, true, false, Option, Some, None, cond, refl}
 use Rattle.std.specs.Str.{IsUtf8, is_utf8}
 use Rattle.std.proofs.lemmas.Str.{is_utf8-from_IsUtf8, IsUtf8-from_is_utf8}
 use Rattle.script.specs.declared.command.Script.{Script}
 use Rattle.script.specs.declared.refusal.ScriptRefusal.{ScriptRefusal}
 use Rattle.script.specs.declared.refusal.ScriptRefusal.TheVariants.{Refused}
 use Rattle.script.specs.declared.refusal.ScriptRule.TheVariants.{NotJson, BadShape}
-use Rattle.script.specs.ScriptDocument.{script_of, document, script_in, script_place, place_in, IsRefusalAt}
+use Rattle.script.specs.ScriptDocument.{script_of, document, script_in, script_place, IsRefusalAt}
 use Rattle.serde_json.specs.Data.{Data}
 use Rattle.serde_json.specs.Read.{read}
 

@@ -29,6 +29,9 @@ fn is_reading(command: &Command) -> bool
 pub(crate) fn is_bounded(commands: &[Command]) -> bool
     ensures { result ≡ is_bounded commands.now }
 {
-    let reading = commands.iter().filter(|command| is_reading(*command)).count();
+    let reading = commands
+        .iter()
+        .filter(|command| is_reading(*command))
+        .count();
     commands.len() <= MAX_COMMANDS && reading <= MAX_READING
 }

@@ -23,3 +23,6 @@ pub use reply::{CallRefusal, HitCounts, Reply, Transcript, TranscriptEnd};
 pub use sequence::Sequence;
 pub use text::Text;
 pub use write::transcript_bytes;
+
+#[cfg(test)]
+mod tests;

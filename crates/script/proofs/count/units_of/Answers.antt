@@ -1,9 +1,8 @@
-use Rattle.std.proofs.Common.{◌≡◌, ◌+◌, ◌<◌, ◌≤◌, ◌^◌, ℕ, length, arith}
+use Rattle.std.proofs.Common.{◌≡◌, ◌<◌, ◌≤◌, ℕ, length, arith}
 use Rattle.std.specs.Char.Escape.{encode_utf16}
 use Rattle.std.specs.Str.Iter.{chars_rest}
 use Rattle.std.proofs.lemmas.Bool.Decides.{nat_tests}
 use Rattle.std.proofs.lemmas.Str.{IsUtf8-past_char}
-use Rattle.points.specs.Text.{utf16_of}
 use Rattle.script.proofs.Loops.{utf16_of_next, utf16_of_nothing, utf16_of_fits}
 use Rattle.script.proofs.count.units_of.Goals as goal
 
