@@ -5,6 +5,8 @@ use Rattle.points.specs.Text.{utf16_of, text_of, replaced}
 use Rattle.points.specs.Place.{point_at, splits_pair, span}
 use Rattle.script.specs.declared.command.Command.{Command}
 use Rattle.script.specs.declared.command.Command.TheVariants as command
+use Rattle.script.specs.declared.command.Opening.{Opening}
+use Rattle.script.specs.declared.command.Opening.TheVariants as opening
 use Rattle.script.specs.declared.reply.CallRefusal.TheVariants.{TooLong}
 use Rattle.script.specs.declared.reply.HitCounts.{HitCounts}
 use Rattle.script.specs.declared.reply.Reply.{Reply}
@@ -86,3 +88,7 @@ after s (c ∷ cs) = after (step s c).0 cs
 abbrev pub replies : State → List Call → List Reply
 replies s [] = []
 replies s (c ∷ cs) = (step s c).1 ∷ replies (step s c).0 cs
+
+-- the units that a script opens with
+abbrev pub opening_units : Opening → List ℕ
+opening_units (opening.Text bytes) = utf16_of bytes

@@ -3,6 +3,7 @@ ghost use Rattle.std.specs.Prelude.{◌≡◌, Some, IfOk, IfErr};
 ghost use Rattle.serde_json.specs.View.{view, items_view};
 ghost use Rattle.script.specs.ScriptDocument.{edit_of, look_of, command_of, commands_of, session_of, sessions_of, opened_by, opening_of, is_version_one, script_of, document, script_in, script_place, IsRefusalAt};
 ghost use Rattle.script.specs.Reading.{Gives};
+ghost use Rattle.script.specs.Limits.{IsWithinLimits};
 
 use crate::command::{Command, Opening, Script};
 use crate::count::{is_bounded, units_of};
@@ -140,6 +141,7 @@ fn refused(why: ScriptRule) -> ScriptRefusal
 /// document itself is session 0, command 0.
 pub fn read_script(alloc: Global, bytes: &[u8]) -> Result<Script, ScriptRefusal>
     ensures read { IfOk result (λ s. script_in bytes.now ≡ Some s) }
+    ensures limits { IfOk result (λ s. IsWithinLimits s) }
     ensures refused { IfErr result (IsRefusalAt (script_place bytes.now)) }
 {
     let value = match Value::from_slice(alloc, bytes) {

@@ -1,0 +1,31 @@
+//! The outside world: where bytes come from and where they go, as traits, and fakes of them in memory.
+//!
+//! What is outside may fail at any call. Each trait has a count of faults that never falls, and a call
+//! answers a fault only where that count rose: it is greater than before, or stands at 2^64 - 1. So a
+//! body that only claims a fault is refused. A source may tell the bytes that it has left, a sink the
+//! bytes that it took, and contracts above speak of these where they are told.
+//!
+//! `MemSource` and `MemSink` fail at the calls that a test names. `SureSource` and `SureSink` never fail.
+#![tactic(auto)]
+
+mod failed;
+mod mem_sink;
+mod mem_source;
+mod plan;
+mod remaining;
+mod sink;
+mod source;
+mod store;
+mod sure_sink;
+mod sure_source;
+
+pub use failed::Failed;
+pub use mem_sink::MemSink;
+pub use mem_source::MemSource;
+pub use sink::Sink;
+pub use source::Source;
+pub use sure_sink::SureSink;
+pub use sure_source::SureSource;
+
+#[cfg(test)]
+mod tests;
