@@ -1,10 +1,9 @@
 ghost use Rattle.std.specs.Prelude.{◌≡◌, ℕ, List, [], ◌++◌, length, IfOk, OnOk, OnErr, string_bytes};
 ghost use Rattle.points.specs.Text.{utf16_of, text_of};
 
+use crate::memory::NoMemory;
 use std::alloc::Global;
 use std::marker::Model;
-
-use crate::memory::NoMemory;
 
 /// A list of UTF-16 units. It need not be well-formed.
 #[derive(Debug, Drop)]

@@ -5,3 +5,8 @@ pub mod Loops
 pub mod Whole
 pub mod Documents
 pub mod LimitLemmas
+pub mod ScriptAgain
+pub mod KeyLemmas
+pub mod KeyOrder
+pub mod ScriptExact
+pub mod Apart

@@ -7,6 +7,7 @@
 
 mod command;
 mod count;
+pub mod document_laws;
 pub mod laws;
 mod limits;
 mod parts;
