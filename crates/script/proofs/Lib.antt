@@ -10,3 +10,4 @@ pub mod KeyLemmas
 pub mod KeyOrder
 pub mod ScriptExact
 pub mod Apart
+pub mod TextsApart

@@ -78,9 +78,19 @@ one_item (array no_items) n = absurd (omega arith)
 one_item (array (item a no_items)) n = (a, refl)
 one_item (array (item a (item b ds))) n = absurd (omega arith)
 
+-- an object with the members of these three keys and no other
+record IsThree (a b c : List ℕ) (d : Data) : Type 0 where
+  first : Data
+  second : Data
+  third : Data
+  is : d ≡ object (member a first (member b second (member c third no_members)))
+
+three_made : (a b c : List ℕ) (d : Data) (parts : IsThree a b c d) (x y z : Data) → parts.first ≡ x → parts.second ≡ y → parts.third ≡ z → d ≡ object (member a x (member b y (member c z no_members)))
+three_made a b c d parts x y z p q r = parts.is ∙ cc (p, q, r)
+
 -- an object with three members that has these three keys
 three_of : (a b c : List ℕ) (d : Data) → Ascend (a ∷ b ∷ c ∷ []) → IsInKeyOrder d → member_count d ≡ 3 → is_some (get a d) ≡ true → is_some (get b d) ≡ true → is_some (get c d) ≡ true
-    → (x y z : Data) × (d ≡ object (member a x (member b y (member c z no_members))))
+    → IsThree a b c d
 three_of a b c null up sorted n h i j = absurd (omega arith)
 three_of a b c (boolean v) up sorted n h i j = absurd (omega arith)
 three_of a b c (number v) up sorted n h i j = absurd (omega arith)
@@ -88,7 +98,7 @@ three_of a b c (string s) up sorted n h i j = absurd (omega arith)
 three_of a b c (array ds) up sorted n h i j = absurd (omega arith)
 three_of a b c (object ms) up sorted n h i j =
     let found = three_members a b c ms (all_keys (a ∷ b ∷ c ∷ []) ms up sorted.0 (h, (i, (j, tt))) (sym n)) in
-    (found.0, found.1, found.2, ap object found.3)
+    record { first = found.0; second = found.1; third = found.2; is = ap object found.3 }
 
 one_of : (a : List ℕ) (d : Data) → IsInKeyOrder d → member_count d ≡ 1 → is_some (get a d) ≡ true → (x : Data) × (d ≡ object (member a x no_members))
 one_of a null sorted n h = absurd (omega arith)
@@ -152,10 +162,10 @@ edit_exact d c sorted n word e =
     option_and_then_some (λ range. option_map (command.Edit range) (string_in (codes "text") d)) (range_in d) c e (λ range range_is rest.
     behind_map (command.Edit range) (string_in (codes "text") d) c rest (λ text text_is is.
     let parts = three_of (codes "do") (codes "range") (codes "text") d ((refl, (refl, tt)), ((refl, tt), (tt, tt))) sorted n (there as_str _ _ word) (there range_of _ _ range_is) (there as_str _ _ text_is) in
-    let x = string_exact parts.0 (codes "edit") (subst (λ v. string_in (codes "do") v ≡ Some (codes "edit")) parts.3 word) in
-    let y = range_exact parts.1 range (subst (λ v. range_in v ≡ Some range) parts.3 range_is) in
-    let z = string_exact parts.2 text (subst (λ v. string_in (codes "text") v ≡ Some text) parts.3 text_is) in
-    let value : d ≡ command_value (command.Edit range text) = parts.3 ∙ rw (x, y.0, z) refl in
+    let x = string_exact parts.first (codes "edit") (subst (λ v. string_in (codes "do") v ≡ Some (codes "edit")) parts.is word) in
+    let y = range_exact parts.second range (subst (λ v. range_in v ≡ Some range) parts.is range_is) in
+    let z = string_exact parts.third text (subst (λ v. string_in (codes "text") v ≡ Some text) parts.is text_is) in
+    let value : d ≡ command_value (command.Edit range text) = three_made (codes "do") (codes "range") (codes "text") d parts _ _ _ x y.0 z in
     subst (λ v. (d ≡ command_value v) × IsCommandWithin v) is (value, y.1)))
 
 look_exact : (d : Data) (c : Command) → IsInKeyOrder d → member_count d ≡ 3 → string_in (codes "do") d ≡ Some (codes "text") → look_of d ≡ Some c → (d ≡ command_value c) × IsCommandWithin c
@@ -164,10 +174,10 @@ look_exact d c sorted n word e =
     option_and_then_some (λ range. option_map (command.Text range) (whole_in max_shown (codes "limit") d)) (range_in d) c e (λ range range_is rest.
     behind_map (command.Text range) (whole_in max_shown (codes "limit") d) c rest (λ limit limit_is is.
     let parts = three_of (codes "do") (codes "limit") (codes "range") d ((refl, (refl, tt)), ((refl, tt), (tt, tt))) sorted n (there as_str _ _ word) (there (whole_of max_shown) _ _ limit_is) (there range_of _ _ range_is) in
-    let x = string_exact parts.0 (codes "text") (subst (λ v. string_in (codes "do") v ≡ Some (codes "text")) parts.3 word) in
-    let y = whole_exact max_shown limit parts.1 (subst (λ v. whole_in max_shown (codes "limit") v ≡ Some limit) parts.3 limit_is) in
-    let z = range_exact parts.2 range (subst (λ v. range_in v ≡ Some range) parts.3 range_is) in
-    let value : d ≡ command_value (command.Text range limit) = parts.3 ∙ rw (x, y.0, z.0) refl in
+    let x = string_exact parts.first (codes "text") (subst (λ v. string_in (codes "do") v ≡ Some (codes "text")) parts.is word) in
+    let y = whole_exact max_shown limit parts.second (subst (λ v. whole_in max_shown (codes "limit") v ≡ Some limit) parts.is limit_is) in
+    let z = range_exact parts.third range (subst (λ v. range_in v ≡ Some range) parts.is range_is) in
+    let value : d ≡ command_value (command.Text range limit) = three_made (codes "do") (codes "limit") (codes "range") d parts _ _ _ x y.0 z.0 in
     subst (λ v. (d ≡ command_value v) × IsCommandWithin v) is (value, (z.1, y.1))))
 
 -- one of two ways
@@ -264,11 +274,11 @@ value_exact d s sorted e =
     behind_map (λ sessions. record { version = 1; opening = o; sessions = sessions }) (option_and_then sessions_of (get (codes "sessions") d)) s rest (λ sessions found is.
     let parts = three_of (codes "open") (codes "sessions") (codes "version") d ((refl, (refl, tt)), ((refl, tt), (tt, tt))) sorted (eqb-true (member_count d) 3 b.0)
     (there opening_of _ _ opens) (there sessions_of _ _ found) (some_there _ version.0 version.1) in
-    let within : IsInKeyOrder (object (member (codes "open") parts.0 (member (codes "sessions") parts.1 (member (codes "version") parts.2 no_members)))) = subst IsInKeyOrder parts.3 sorted in
-    let x = opening_exact parts.0 o within.1.0 (subst (λ v. option_and_then opening_of (get (codes "open") v) ≡ Some o) parts.3 opens) in
-    let y = sessions_exact parts.1 sessions within.1.1.0 (subst (λ v. option_and_then sessions_of (get (codes "sessions") v) ≡ Some sessions) parts.3 found) in
-    let z : parts.2 ≡ whole 1 = same_Some _ _ (subst (λ v. get (codes "version") v ≡ Some version.0) parts.3 version.1) ∙ version.2 in
-    let value : d ≡ script_value (record { version = 1; opening = o; sessions = sessions }) = parts.3 ∙ rw (x, y.0, z) refl in
+    let within : IsInKeyOrder (object (member (codes "open") parts.first (member (codes "sessions") parts.second (member (codes "version") parts.third no_members)))) = subst IsInKeyOrder parts.is sorted in
+    let x = opening_exact parts.first o within.1.0 (subst (λ v. option_and_then opening_of (get (codes "open") v) ≡ Some o) parts.is opens) in
+    let y = sessions_exact parts.second sessions within.1.1.0 (subst (λ v. option_and_then sessions_of (get (codes "sessions") v) ≡ Some sessions) parts.is found) in
+    let z : parts.third ≡ whole 1 = same_Some _ _ (subst (λ v. get (codes "version") v ≡ Some version.0) parts.is version.1) ∙ version.2 in
+    let value : d ≡ script_value (record { version = 1; opening = o; sessions = sessions }) = three_made (codes "open") (codes "sessions") (codes "version") d parts _ _ _ x y.0 z in
     subst (λ v. (d ≡ script_value v) × AllByRecursion (AllByRecursion IsCommandWithin) v.sessions) is (value, y.1)))
 
 -- what is read as a script is its value, and it breaks no rule
