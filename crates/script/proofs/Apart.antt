@@ -1,5 +1,5 @@
 -- Different transcripts have different JSON values.
-use Rattle.std.proofs.Common.{◌≡◌, ℕ, List, [], ◌∷◌, refl, ap, ap₂, ◌∙◌}
+use Rattle.std.proofs.Common.{◌≡◌, ℕ, List, [], ◌∷◌, refl, ap₂}
 use Rattle.points.specs.declared.point.Point.{Point}
 use Rattle.script.specs.declared.reply.CallRefusal.{CallRefusal}
 use Rattle.script.specs.declared.reply.CallRefusal.TheVariants.{TooLong}

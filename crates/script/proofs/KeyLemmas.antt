@@ -1,16 +1,16 @@
 -- Objects whose keys stand in order, each once: those that are read, and what they are where some keys are known to be all of them.
-use Rattle.std.proofs.Common.{◌≡◌, ◌+◌, ◌<◌, ◌≤◌, ◌⊎◌, inl, inr, ℕ, suc, List, [], ◌∷◌, length, Bool, true, false, Option, Some, None, Ordering, Less, Equal, Greater, nat_cmp, refl, sym, ap, ap₂, subst, ◌∙◌, arith, is_eq}
+use Rattle.std.proofs.Common.{◌≡◌, ◌<◌, ◌⊎◌, inl, inr, ℕ, suc, List, [], ◌∷◌, length, true, Option, Some, None, Ordering, Less, Equal, Greater, nat_cmp, refl, sym, ap, ap₂, subst, ◌∙◌, arith, is_eq}
 use Rattle.std.specs.Prelude.{is_some}
 use Rattle.std.specs.Cmp.Lexicographic.{slice_cmp}
 use Rattle.std.specs.List.{AllByRecursion}
 use Rattle.std.specs.Ordering.{match_ordering, ordering_reverse}
 use Rattle.std.proofs.lemmas.Bool.{true≢false}
-use Rattle.std.proofs.lemmas.Cmp.{nat_list_cmp_total, tied_itself}
+use Rattle.std.proofs.lemmas.Cmp.{nat_list_cmp_total}
 use Rattle.std.proofs.lemmas.Map.Text.{is_eq-slice_cmp}
 use Rattle.std.proofs.lemmas.Slice.Eq.{bytes_eq-Decides}
-use Rattle.script.specs.ScriptDocument.{count_members, member_count}
-use Rattle.serde_json.specs.Data.{Data, null, boolean, number, string, array, object, Members, no_members, member}
-use Rattle.serde_json.specs.Find.{get_member, get}
+use Rattle.script.specs.ScriptDocument.{count_members}
+use Rattle.serde_json.specs.Data.{Data, Members, no_members, member}
+use Rattle.serde_json.specs.Find.{get_member}
 
 -- the order of keys
 abbrev pub key_cmp : List ℕ → List ℕ → Ordering
@@ -99,7 +99,7 @@ fewer_or_all (k ∷ ks) (member l d ms) up sorted there = by_first (key_cmp k l)
 
 -- As many keys in order as there are members, and all of them there, are the keys of the members.
 pub all_keys : (ks : List (List ℕ)) (ms : Members) → Ascend ks → Ascend (keys_of ms) → AreThere ks ms → length ks ≡ count_members ms → keys_of ms ≡ ks
-all_keys ks ms up sorted there many = elim (fewer_or_all ks ms up sorted there) [ | inl fewer ↦ absurd (omega arith) | inr all ↦ all ]
+all_keys ks ms up sorted there many = elim (fewer_or_all ks ms up sorted there) [ inl fewer ↦ absurd (omega arith) | inr all ↦ all ]
 
 -- the members with these three keys
 pub three_members : (a b c : List ℕ) (ms : Members) → keys_of ms ≡ a ∷ b ∷ c ∷ [] → (x y z : Data) × (ms ≡ member a x (member b y (member c z no_members)))

@@ -1,5 +1,5 @@
 -- In a value that is read, the keys of each object stand in order, each once.
-use Rattle.std.proofs.Common.{◌≡◌, ℕ, List, [], ◌∷◌, Option, Some, None, option_map, option_and_then, Ordering, Less, Equal, Greater, refl, subst}
+use Rattle.std.proofs.Common.{◌≡◌, ℕ, List, Some, option_map, option_and_then, Ordering, Less, Equal, Greater, refl, subst}
 use Rattle.std.specs.List.{AllByRecursion}
 use Rattle.std.specs.Ordering.{match_ordering}
 use Rattle.std.proofs.lemmas.Option.{option_and_then_some, same_Some}

@@ -1,17 +1,16 @@
 -- A script that breaks no rule is read again from its JSON value.
-use Rattle.std.proofs.Common.{◌≡◌, ◌+◌, ◌≤◌, ℕ, List, [], ◌∷◌, length, true, Some, refl, sym, ap, ◌∙◌, arith}
+use Rattle.std.proofs.Common.{◌≡◌, ◌+◌, ◌≤◌, ℕ, List, [], ◌∷◌, length, true, Some, refl, arith}
 use Rattle.std.specs.List.{AllByRecursion}
 use Rattle.std.proofs.lemmas.Bool.{le-leb}
 use Rattle.points.specs.declared.point.Point.{Point}
 use Rattle.points.specs.declared.range.Range.{Range}
-use Rattle.points.specs.Point.{IsWithin}
 use Rattle.script.specs.declared.command.Command.{Command}
 use Rattle.script.specs.declared.command.Command.TheVariants as command
 use Rattle.script.specs.declared.command.Opening.{Opening}
 use Rattle.script.specs.declared.command.Opening.TheVariants as opening
 use Rattle.script.specs.declared.command.Script.{Script}
 use Rattle.script.specs.Machine.{max_units, opening_units}
-use Rattle.script.specs.ScriptDocument.{within, coordinate, point_from, range_of, range_between, edit_of, look_of, command_of, commands_of, is_bounded, session_of, sessions_of, opening_of, script_of, max_coord, max_shown}
+use Rattle.script.specs.ScriptDocument.{within, coordinate, point_from, range_of, edit_of, look_of, command_of, commands_of, is_bounded, session_of, sessions_of, opening_of, script_of, max_coord, max_shown}
 use Rattle.script.specs.ScriptValue.{range_value, command_value, commands_items, scripts_items, opening_value, script_value, IsRangeWithin, IsCommandWithin, BreaksNoRule}
 use Rattle.script.proofs.Counting.{range_in_order}
 use Rattle.serde_json.specs.Data.{Data, array}

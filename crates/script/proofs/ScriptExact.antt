@@ -1,8 +1,7 @@
 -- What is read as a script is that script's JSON value.
-use Rattle.std.proofs.Common.{◌≡◌, ◌+◌, ◌≤◌, ℕ, suc, List, [], ◌∷◌, length, Bool, true, false, cond, Option, Some, None, option_map, option_and_then, refl, sym, ap, ap₂, subst, ◌∙◌, ◌⊎◌, inl, inr, arith}
+use Rattle.std.proofs.Common.{◌≡◌, ◌+◌, ◌≤◌, ℕ, List, [], ◌∷◌, Bool, true, false, cond, Option, Some, None, option_map, option_and_then, refl, sym, ap, ap₂, subst, ◌∙◌, ◌⊎◌, inl, inr, arith}
 use Rattle.std.specs.Prelude.{codes, is_some, nat_le, ◌==◌, ◌&&◌}
 use Rattle.std.specs.List.{AllByRecursion}
-use Rattle.std.specs.Str.{bytes_eq}
 use Rattle.std.proofs.lemmas.Bool.{leb-true, eqb-true, and_parts, true≢false}
 use Rattle.std.proofs.lemmas.Option.{option_and_then_some, cond_some, none-some, same_Some}
 use Rattle.std.proofs.lemmas.Slice.Eq.{bytes_eq-Decides}
@@ -17,10 +16,10 @@ use Rattle.script.specs.declared.command.Script.{Script}
 use Rattle.script.specs.ScriptDocument.{member_count, item_count, string_in, whole_of, whole_in, coordinate, point_from, range_by, range_between, range_of, range_in, edit_of, look_of, command_of, commands_of, is_word, bounded, is_bounded, session_of, sessions_of, opened_by, opening_of, is_version_one, is_one, script_of, max_coord, max_shown}
 use Rattle.script.specs.ScriptValue.{range_value, command_value, commands_items, scripts_items, opening_value, script_value, IsRangeWithin, IsCommandWithin, BreaksNoRule}
 use Rattle.script.specs.TranscriptDocument.{whole}
-use Rattle.script.proofs.KeyLemmas.{Ascend, AreThere, keys_of, all_keys, three_members, one_member}
-use Rattle.script.proofs.KeyOrder.{IsInKeyOrder, ItemsInKeyOrder, MembersInKeyOrder}
+use Rattle.script.proofs.KeyLemmas.{Ascend, all_keys, three_members, one_member}
+use Rattle.script.proofs.KeyOrder.{IsInKeyOrder, ItemsInKeyOrder}
 use Rattle.script.proofs.LimitLemmas.{behind_map, value_within}
-use Rattle.serde_json.specs.Data.{Data, null, boolean, number, string, array, object, unsigned, negative, float, Items, no_items, item, Members, no_members, member}
+use Rattle.serde_json.specs.Data.{Data, null, boolean, number, string, array, object, unsigned, negative, float, Items, no_items, item, no_members, member}
 use Rattle.serde_json.specs.Find.{get, at, as_str, as_array, as_number, as_u64}
 
 -- a test that passed, and what stands behind it
@@ -156,17 +155,29 @@ word_exact : (o : Option (List ℕ)) (word : List ℕ) → is_word o word ≡ tr
 word_exact None word e = absurd (true≢false (sym e))
 word_exact (Some s) word e = ap Some ((bytes_eq-Decides s word).0 e)
 
+edit_parts : (d : Data) (range : Range) (text : List ℕ) (parts : IsThree (codes "do") (codes "range") (codes "text") d) → string_in (codes "do") d ≡ Some (codes "edit") → range_in d ≡ Some range → string_in (codes "text") d ≡ Some text
+    → (d ≡ command_value (command.Edit range text)) × IsRangeWithin range
+edit_parts d range text parts word range_is text_is =
+    let x = string_exact parts.first (codes "edit") (subst (λ v. string_in (codes "do") v ≡ Some (codes "edit")) parts.is word) in
+    let y = range_exact parts.second range (subst (λ v. range_in v ≡ Some range) parts.is range_is) in
+    let z = string_exact parts.third text (subst (λ v. string_in (codes "text") v ≡ Some text) parts.is text_is) in
+    (three_made (codes "do") (codes "range") (codes "text") d parts _ _ _ x y.0 z, y.1)
+
 edit_exact : (d : Data) (c : Command) → IsInKeyOrder d → member_count d ≡ 3 → string_in (codes "do") d ≡ Some (codes "edit") → edit_of d ≡ Some c → (d ≡ command_value c) × IsCommandWithin c
 unfolding edit_of
 edit_exact d c sorted n word e =
     option_and_then_some (λ range. option_map (command.Edit range) (string_in (codes "text") d)) (range_in d) c e (λ range range_is rest.
     behind_map (command.Edit range) (string_in (codes "text") d) c rest (λ text text_is is.
     let parts = three_of (codes "do") (codes "range") (codes "text") d ((refl, (refl, tt)), ((refl, tt), (tt, tt))) sorted n (there as_str _ _ word) (there range_of _ _ range_is) (there as_str _ _ text_is) in
-    let x = string_exact parts.first (codes "edit") (subst (λ v. string_in (codes "do") v ≡ Some (codes "edit")) parts.is word) in
-    let y = range_exact parts.second range (subst (λ v. range_in v ≡ Some range) parts.is range_is) in
-    let z = string_exact parts.third text (subst (λ v. string_in (codes "text") v ≡ Some text) parts.is text_is) in
-    let value : d ≡ command_value (command.Edit range text) = three_made (codes "do") (codes "range") (codes "text") d parts _ _ _ x y.0 z in
-    subst (λ v. (d ≡ command_value v) × IsCommandWithin v) is (value, y.1)))
+    subst (λ v. (d ≡ command_value v) × IsCommandWithin v) is (edit_parts d range text parts word range_is text_is)))
+
+look_parts : (d : Data) (range : Range) (limit : ℕ) (parts : IsThree (codes "do") (codes "limit") (codes "range") d) → string_in (codes "do") d ≡ Some (codes "text") → range_in d ≡ Some range → whole_in max_shown (codes "limit") d ≡ Some limit
+    → (d ≡ command_value (command.Text range limit)) × (IsRangeWithin range × (limit ≤ max_shown))
+look_parts d range limit parts word range_is limit_is =
+    let x = string_exact parts.first (codes "text") (subst (λ v. string_in (codes "do") v ≡ Some (codes "text")) parts.is word) in
+    let y = whole_exact max_shown limit parts.second (subst (λ v. whole_in max_shown (codes "limit") v ≡ Some limit) parts.is limit_is) in
+    let z = range_exact parts.third range (subst (λ v. range_in v ≡ Some range) parts.is range_is) in
+    (three_made (codes "do") (codes "limit") (codes "range") d parts _ _ _ x y.0 z.0, (z.1, y.1))
 
 look_exact : (d : Data) (c : Command) → IsInKeyOrder d → member_count d ≡ 3 → string_in (codes "do") d ≡ Some (codes "text") → look_of d ≡ Some c → (d ≡ command_value c) × IsCommandWithin c
 unfolding look_of
@@ -174,11 +185,7 @@ look_exact d c sorted n word e =
     option_and_then_some (λ range. option_map (command.Text range) (whole_in max_shown (codes "limit") d)) (range_in d) c e (λ range range_is rest.
     behind_map (command.Text range) (whole_in max_shown (codes "limit") d) c rest (λ limit limit_is is.
     let parts = three_of (codes "do") (codes "limit") (codes "range") d ((refl, (refl, tt)), ((refl, tt), (tt, tt))) sorted n (there as_str _ _ word) (there (whole_of max_shown) _ _ limit_is) (there range_of _ _ range_is) in
-    let x = string_exact parts.first (codes "text") (subst (λ v. string_in (codes "do") v ≡ Some (codes "text")) parts.is word) in
-    let y = whole_exact max_shown limit parts.second (subst (λ v. whole_in max_shown (codes "limit") v ≡ Some limit) parts.is limit_is) in
-    let z = range_exact parts.third range (subst (λ v. range_in v ≡ Some range) parts.is range_is) in
-    let value : d ≡ command_value (command.Text range limit) = three_made (codes "do") (codes "limit") (codes "range") d parts _ _ _ x y.0 z.0 in
-    subst (λ v. (d ≡ command_value v) × IsCommandWithin v) is (value, (z.1, y.1))))
+    subst (λ v. (d ≡ command_value v) × IsCommandWithin v) is (look_parts d range limit parts word range_is limit_is)))
 
 -- one of two ways
 either_some : {A : Type 0} (b : Bool) (o p : Option A) (y : A) → cond b o p ≡ Some y → ((b ≡ true) × (o ≡ Some y)) ⊎ (p ≡ Some y)
@@ -259,9 +266,19 @@ number_exact (string s) n e = absurd (none-some n e)
 number_exact (array ds) n e = absurd (none-some n e)
 number_exact (object ms) n e = absurd (none-some n e)
 
-version_exact : (o : Option Data) → is_one (option_and_then as_u64 (option_and_then as_number o)) ≡ true → (d : Data) × (o ≡ Some d) × (d ≡ whole 1)
+version_exact : (o : Option Data) → is_one (option_and_then as_u64 (option_and_then as_number o)) ≡ true → o ≡ Some (whole 1)
 version_exact None e = absurd (true≢false (sym e))
-version_exact (Some d) e = (d, refl, number_exact d 1 (one_exact _ e))
+version_exact (Some d) e = ap Some (number_exact d 1 (one_exact _ e))
+
+value_parts : (d : Data) (o : Opening) (sessions : List (List Command)) (parts : IsThree (codes "open") (codes "sessions") (codes "version") d) → IsInKeyOrder d
+    → option_and_then opening_of (get (codes "open") d) ≡ Some o → option_and_then sessions_of (get (codes "sessions") d) ≡ Some sessions → get (codes "version") d ≡ Some (whole 1)
+    → (d ≡ script_value (record { version = 1; opening = o; sessions = sessions })) × AllByRecursion (AllByRecursion IsCommandWithin) sessions
+value_parts d o sessions parts sorted opens found version =
+    let within : IsInKeyOrder (object (member (codes "open") parts.first (member (codes "sessions") parts.second (member (codes "version") parts.third no_members)))) = subst IsInKeyOrder parts.is sorted in
+    let x = opening_exact parts.first o within.1.0 (subst (λ v. option_and_then opening_of (get (codes "open") v) ≡ Some o) parts.is opens) in
+    let y = sessions_exact parts.second sessions within.1.1.0 (subst (λ v. option_and_then sessions_of (get (codes "sessions") v) ≡ Some sessions) parts.is found) in
+    let z : parts.third ≡ whole 1 = same_Some _ _ (subst (λ v. get (codes "version") v ≡ Some (whole 1)) parts.is version) in
+    (three_made (codes "open") (codes "sessions") (codes "version") d parts _ _ _ x y.0 z, y.1)
 
 value_exact : (d : Data) (s : Script) → IsInKeyOrder d → script_of d ≡ Some s → (d ≡ script_value s) × AllByRecursion (AllByRecursion IsCommandWithin) s.sessions
 unfolding script_of
@@ -273,13 +290,8 @@ value_exact d s sorted e =
     (option_and_then opening_of (get (codes "open") d)) s t.1 (λ o opens rest.
     behind_map (λ sessions. record { version = 1; opening = o; sessions = sessions }) (option_and_then sessions_of (get (codes "sessions") d)) s rest (λ sessions found is.
     let parts = three_of (codes "open") (codes "sessions") (codes "version") d ((refl, (refl, tt)), ((refl, tt), (tt, tt))) sorted (eqb-true (member_count d) 3 b.0)
-    (there opening_of _ _ opens) (there sessions_of _ _ found) (some_there _ version.0 version.1) in
-    let within : IsInKeyOrder (object (member (codes "open") parts.first (member (codes "sessions") parts.second (member (codes "version") parts.third no_members)))) = subst IsInKeyOrder parts.is sorted in
-    let x = opening_exact parts.first o within.1.0 (subst (λ v. option_and_then opening_of (get (codes "open") v) ≡ Some o) parts.is opens) in
-    let y = sessions_exact parts.second sessions within.1.1.0 (subst (λ v. option_and_then sessions_of (get (codes "sessions") v) ≡ Some sessions) parts.is found) in
-    let z : parts.third ≡ whole 1 = same_Some _ _ (subst (λ v. get (codes "version") v ≡ Some version.0) parts.is version.1) ∙ version.2 in
-    let value : d ≡ script_value (record { version = 1; opening = o; sessions = sessions }) = three_made (codes "open") (codes "sessions") (codes "version") d parts _ _ _ x y.0 z in
-    subst (λ v. (d ≡ script_value v) × AllByRecursion (AllByRecursion IsCommandWithin) v.sessions) is (value, y.1)))
+    (there opening_of _ _ opens) (there sessions_of _ _ found) (some_there _ _ version) in
+    subst (λ v. (d ≡ script_value v) × AllByRecursion (AllByRecursion IsCommandWithin) v.sessions) is (value_parts d o sessions parts sorted opens found version)))
 
 -- what is read as a script is its value, and it breaks no rule
 pub script_exact : (d : Data) (s : Script) → IsInKeyOrder d → script_of d ≡ Some s → (d ≡ script_value s) × BreaksNoRule s

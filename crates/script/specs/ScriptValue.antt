@@ -1,5 +1,5 @@
 -- The JSON value of a script, and the scripts that break no rule.
-use Rattle.std.specs.Prelude.{ℕ, ◌≤◌, List, [], ◌∷◌, codes}
+use Rattle.std.specs.Prelude.{◌≤◌, List, [], ◌∷◌, codes}
 use Rattle.std.specs.List.{AllByRecursion}
 use Rattle.points.specs.declared.range.Range.{Range}
 use Rattle.points.specs.Point.{IsWithin}
