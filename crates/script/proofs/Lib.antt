@@ -6,3 +6,9 @@ pub mod Whole
 pub mod Documents
 pub mod LimitLemmas
 pub mod StepLemmas
+pub mod ScriptAgain
+pub mod KeyLemmas
+pub mod KeyOrder
+pub mod ScriptExact
+pub mod Apart
+pub mod TextsApart

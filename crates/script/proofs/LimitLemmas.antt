@@ -16,11 +16,11 @@ use Rattle.script.specs.ScriptDocument.{script_in, script_of, document, opening_
 use Rattle.script.specs.Limits.{IsWithinLimits}
 
 -- the value behind a test that passed, and behind a map
-behind_test : {A : Type 0} (b : Bool) (o : Option A) (y : A) → cond b o None ≡ Some y → o ≡ Some y
+pub behind_test : {A : Type 0} (b : Bool) (o : Option A) (y : A) → cond b o None ≡ Some y → o ≡ Some y
 behind_test true o y h = h
 behind_test false o y h = absurd (none-some y h)
 
-behind_map : {A B P : Type 0} (f : A → B) (o : Option A) (y : B) → option_map f o ≡ Some y → ((x : A) → o ≡ Some x → f x ≡ y → P) → P
+pub behind_map : {A B P : Type 0} (f : A → B) (o : Option A) (y : B) → option_map f o ≡ Some y → ((x : A) → o ≡ Some x → f x ≡ y → P) → P
 behind_map f None y h k = absurd (none-some y h)
 behind_map f (Some x) y h k = k x refl (same_Some _ _ h)
 
@@ -52,7 +52,7 @@ sessions_within d sessions h =
     option_and_then_some session_of (at 0 d) session found (λ e there reads.
     subst IsOneBounded is (record { one = refl; commands = (session_within e session reads, tt) })))
 
-value_within : (d : Data) (s : Script) → script_of d ≡ Some s → IsWithinLimits s
+pub value_within : (d : Data) (s : Script) → script_of d ≡ Some s → IsWithinLimits s
 unfolding script_of
 value_within d s h =
     option_and_then_some (λ o. option_map (λ sessions. record { version = 1; opening = o; sessions = sessions }) (option_and_then sessions_of (get (codes "sessions") d)))

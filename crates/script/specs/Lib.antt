@@ -3,5 +3,7 @@ pub mod ScriptDocument
 pub mod Reading
 pub mod TranscriptDocument
 pub mod Limits
+pub mod ScriptValue
+pub mod DocumentLaws
 pub mod Lawful
 pub mod Laws

@@ -7,6 +7,7 @@
 
 mod command;
 mod count;
+pub mod document_laws;
 pub mod laws;
 mod limits;
 mod parts;
@@ -24,3 +25,6 @@ pub use reply::{CallRefusal, HitCounts, Reply, Transcript, TranscriptEnd};
 pub use sequence::Sequence;
 pub use text::Text;
 pub use write::transcript_bytes;
+
+#[cfg(test)]
+mod tests;

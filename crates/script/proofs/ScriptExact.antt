@@ -1,0 +1,300 @@
+-- What is read as a script is that script's JSON value.
+use Rattle.std.proofs.Common.{◌≡◌, ◌+◌, ◌≤◌, ℕ, List, [], ◌∷◌, Bool, true, false, cond, Option, Some, None, option_map, option_and_then, refl, sym, ap, ap₂, subst, ◌∙◌, ◌⊎◌, inl, inr, arith}
+use Rattle.std.specs.Prelude.{codes, is_some, nat_le, ◌==◌, ◌&&◌}
+use Rattle.std.specs.List.{AllByRecursion}
+use Rattle.std.proofs.lemmas.Bool.{leb-true, eqb-true, and_parts, true≢false}
+use Rattle.std.proofs.lemmas.Option.{option_and_then_some, cond_some, none-some, same_Some}
+use Rattle.std.proofs.lemmas.Slice.Eq.{bytes_eq-Decides}
+use Rattle.points.specs.declared.point.Point.{Point}
+use Rattle.points.specs.declared.range.Range.{Range}
+use Rattle.points.specs.Point.{point_le, IsWithin}
+use Rattle.script.specs.declared.command.Command.{Command}
+use Rattle.script.specs.declared.command.Command.TheVariants as command
+use Rattle.script.specs.declared.command.Opening.{Opening}
+use Rattle.script.specs.declared.command.Opening.TheVariants as opening
+use Rattle.script.specs.declared.command.Script.{Script}
+use Rattle.script.specs.ScriptDocument.{member_count, item_count, string_in, whole_of, whole_in, coordinate, point_from, range_by, range_between, range_of, range_in, edit_of, look_of, command_of, commands_of, is_word, bounded, is_bounded, session_of, sessions_of, opened_by, opening_of, is_version_one, is_one, script_of, max_coord, max_shown}
+use Rattle.script.specs.ScriptValue.{range_value, command_value, commands_items, scripts_items, opening_value, script_value, IsRangeWithin, IsCommandWithin, BreaksNoRule}
+use Rattle.script.specs.TranscriptDocument.{whole}
+use Rattle.script.proofs.KeyLemmas.{Ascend, all_keys, three_members, one_member}
+use Rattle.script.proofs.KeyOrder.{IsInKeyOrder, ItemsInKeyOrder}
+use Rattle.script.proofs.LimitLemmas.{behind_map, value_within}
+use Rattle.serde_json.specs.Data.{Data, null, boolean, number, string, array, object, unsigned, negative, float, Items, no_items, item, no_members, member}
+use Rattle.serde_json.specs.Find.{get, at, as_str, as_array, as_number, as_u64}
+
+-- a test that passed, and what stands behind it
+test_some : {A : Type 0} (b : Bool) (o : Option A) (y : A) → cond b o None ≡ Some y → (b ≡ true) × (o ≡ Some y)
+test_some true o y e = (refl, e)
+test_some false o y e = absurd (none-some y e)
+
+some_there : {A : Type 0} (o : Option A) (x : A) → o ≡ Some x → is_some o ≡ true
+some_there o x e = ap is_some e
+
+-- ---- numbers and strings
+
+whole_exact : (limit n : ℕ) (d : Data) → whole_of limit d ≡ Some n → (d ≡ whole n) × (n ≤ limit)
+whole_exact limit n null e = absurd (none-some n e)
+whole_exact limit n (boolean b) e = absurd (none-some n e)
+whole_exact limit n (number (unsigned m)) e =
+    let parts : (nat_le m limit ≡ true) × (m ≡ n) = cond_some _ m n e in
+    (ap whole parts.1, subst (λ k. k ≤ limit) parts.1 (leb-true m limit parts.0))
+whole_exact limit n (number (negative z)) e = absurd (none-some n e)
+whole_exact limit n (number (float x)) e = absurd (none-some n e)
+whole_exact limit n (string s) e = absurd (none-some n e)
+whole_exact limit n (array ds) e = absurd (none-some n e)
+whole_exact limit n (object ms) e = absurd (none-some n e)
+
+string_exact : (d : Data) (s : List ℕ) → as_str d ≡ Some s → d ≡ string s
+string_exact null s e = absurd (none-some s e)
+string_exact (boolean b) s e = absurd (none-some s e)
+string_exact (number n) s e = absurd (none-some s e)
+string_exact (string t) s e = ap string (same_Some t s e)
+string_exact (array ds) s e = absurd (none-some s e)
+string_exact (object ms) s e = absurd (none-some s e)
+
+-- ---- lists and objects of a known size
+
+four_items : (d : Data) → item_count d ≡ 4 → (a b c e : Data) × (d ≡ array (item a (item b (item c (item e no_items)))))
+four_items null n = absurd (omega arith)
+four_items (boolean x) n = absurd (omega arith)
+four_items (number x) n = absurd (omega arith)
+four_items (string s) n = absurd (omega arith)
+four_items (object ms) n = absurd (omega arith)
+four_items (array no_items) n = absurd (omega arith)
+four_items (array (item a no_items)) n = absurd (omega arith)
+four_items (array (item a (item b no_items))) n = absurd (omega arith)
+four_items (array (item a (item b (item c no_items)))) n = absurd (omega arith)
+four_items (array (item a (item b (item c (item e no_items))))) n = (a, b, c, e, refl)
+four_items (array (item a (item b (item c (item e (item f ds)))))) n = absurd (omega arith)
+
+one_item : (d : Data) → item_count d ≡ 1 → (a : Data) × (d ≡ array (item a no_items))
+one_item null n = absurd (omega arith)
+one_item (boolean x) n = absurd (omega arith)
+one_item (number x) n = absurd (omega arith)
+one_item (string s) n = absurd (omega arith)
+one_item (object ms) n = absurd (omega arith)
+one_item (array no_items) n = absurd (omega arith)
+one_item (array (item a no_items)) n = (a, refl)
+one_item (array (item a (item b ds))) n = absurd (omega arith)
+
+-- an object with the members of these three keys and no other
+record IsThree (a b c : List ℕ) (d : Data) : Type 0 where
+  first : Data
+  second : Data
+  third : Data
+  is : d ≡ object (member a first (member b second (member c third no_members)))
+
+three_made : (a b c : List ℕ) (d : Data) (parts : IsThree a b c d) (x y z : Data) → parts.first ≡ x → parts.second ≡ y → parts.third ≡ z → d ≡ object (member a x (member b y (member c z no_members)))
+three_made a b c d parts x y z p q r = parts.is ∙ cc (p, q, r)
+
+-- an object with three members that has these three keys
+three_of : (a b c : List ℕ) (d : Data) → Ascend (a ∷ b ∷ c ∷ []) → IsInKeyOrder d → member_count d ≡ 3 → is_some (get a d) ≡ true → is_some (get b d) ≡ true → is_some (get c d) ≡ true
+    → IsThree a b c d
+three_of a b c null up sorted n h i j = absurd (omega arith)
+three_of a b c (boolean v) up sorted n h i j = absurd (omega arith)
+three_of a b c (number v) up sorted n h i j = absurd (omega arith)
+three_of a b c (string s) up sorted n h i j = absurd (omega arith)
+three_of a b c (array ds) up sorted n h i j = absurd (omega arith)
+three_of a b c (object ms) up sorted n h i j =
+    let found = three_members a b c ms (all_keys (a ∷ b ∷ c ∷ []) ms up sorted.0 (h, (i, (j, tt))) (sym n)) in
+    record { first = found.0; second = found.1; third = found.2; is = ap object found.3 }
+
+one_of : (a : List ℕ) (d : Data) → IsInKeyOrder d → member_count d ≡ 1 → is_some (get a d) ≡ true → (x : Data) × (d ≡ object (member a x no_members))
+one_of a null sorted n h = absurd (omega arith)
+one_of a (boolean v) sorted n h = absurd (omega arith)
+one_of a (number v) sorted n h = absurd (omega arith)
+one_of a (string s) sorted n h = absurd (omega arith)
+one_of a (array ds) sorted n h = absurd (omega arith)
+one_of a (object ms) sorted n h =
+    let found = one_member a ms (all_keys (a ∷ []) ms (tt, tt) sorted.0 (h, tt) (sym n)) in
+    (found.0, ap object found.1)
+
+-- ---- ranges
+
+-- the row and the column that a point was read from
+record IsPointFrom (a b : Data) (p : Point) : Type 0 where
+  row : a ≡ whole p.row
+  column : b ≡ whole p.column
+  within : IsWithin max_coord p
+
+point_exact : (d : Data) (i : ℕ) (a b : Data) (p : Point) → at i d ≡ Some a → at (i + 1) d ≡ Some b → point_from d i ≡ Some p → IsPointFrom a b p
+point_exact d i a b p first second e =
+    option_and_then_some (λ row. option_map (λ column. record { row = row; column = column }) (coordinate d (i + 1))) (coordinate d i) p e (λ row row_is rest.
+    behind_map (λ column. record { row = row; column = column }) (coordinate d (i + 1)) p rest (λ column column_is is.
+    let r = whole_exact max_coord row a (ap (option_and_then (whole_of max_coord)) (sym first) ∙ row_is) in
+    let c = whole_exact max_coord column b (ap (option_and_then (whole_of max_coord)) (sym second) ∙ column_is) in
+    subst (IsPointFrom a b) is (record { row = r.0; column = c.0; within = record { row = r.1; column = c.1 } })))
+
+between_exact : (start end : Point) (b : Bool) (h : point_le start end ≡ b) (r : Range) → range_by start end b h ≡ Some r → (start ≡ r.start) × (end ≡ r.end)
+between_exact start end true h r e = (ap (λ (x : Range). x.start) (same_Some _ r e), ap (λ (x : Range). x.end) (same_Some _ r e))
+between_exact start end false h r e = absurd (none-some r e)
+
+range_items : (a b c e : Data) (r : Range) → IsPointFrom a b r.start → IsPointFrom c e r.end → array (item a (item b (item c (item e no_items)))) ≡ range_value r
+range_items a b c e r start end = rw (start.row, start.column, end.row, end.column) refl
+
+range_exact : (d : Data) (r : Range) → range_of d ≡ Some r → (d ≡ range_value r) × IsRangeWithin r
+unfolding range_of
+range_exact d r e =
+    let t = test_some (item_count d == 4) _ r e in
+    let f = four_items d (eqb-true (item_count d) 4 t.0) in
+    let listed = array (item f.0 (item f.1 (item f.2 (item f.3 no_items)))) in
+    let read = subst (λ x. option_and_then (λ start. option_and_then (range_between start) (point_from x 2)) (point_from x 0) ≡ Some r) f.4 t.1 in
+    option_and_then_some (λ start. option_and_then (range_between start) (point_from listed 2)) (point_from listed 0) r read (λ start start_is rest.
+    option_and_then_some (range_between start) (point_from listed 2) r rest (λ end end_is between.
+    let ends = between_exact start end (point_le start end) refl r between in
+    let s = subst (IsPointFrom f.0 f.1) ends.0 (point_exact listed 0 f.0 f.1 start refl refl start_is) in
+    let t = subst (IsPointFrom f.2 f.3) ends.1 (point_exact listed 2 f.2 f.3 end refl refl end_is) in
+    (f.4 ∙ range_items f.0 f.1 f.2 f.3 r s t, record { start = s.within; end = t.within })))
+
+-- ---- commands
+
+there : {A B : Type 0} (f : A → Option B) (o : Option A) (y : B) → option_and_then f o ≡ Some y → is_some o ≡ true
+there f o y e = option_and_then_some f o y e (λ x is rest. some_there o x is)
+
+word_exact : (o : Option (List ℕ)) (word : List ℕ) → is_word o word ≡ true → o ≡ Some word
+word_exact None word e = absurd (true≢false (sym e))
+word_exact (Some s) word e = ap Some ((bytes_eq-Decides s word).0 e)
+
+edit_parts : (d : Data) (range : Range) (text : List ℕ) (parts : IsThree (codes "do") (codes "range") (codes "text") d) → string_in (codes "do") d ≡ Some (codes "edit") → range_in d ≡ Some range → string_in (codes "text") d ≡ Some text
+    → (d ≡ command_value (command.Edit range text)) × IsRangeWithin range
+edit_parts d range text parts word range_is text_is =
+    let x = string_exact parts.first (codes "edit") (subst (λ v. string_in (codes "do") v ≡ Some (codes "edit")) parts.is word) in
+    let y = range_exact parts.second range (subst (λ v. range_in v ≡ Some range) parts.is range_is) in
+    let z = string_exact parts.third text (subst (λ v. string_in (codes "text") v ≡ Some text) parts.is text_is) in
+    (three_made (codes "do") (codes "range") (codes "text") d parts _ _ _ x y.0 z, y.1)
+
+edit_exact : (d : Data) (c : Command) → IsInKeyOrder d → member_count d ≡ 3 → string_in (codes "do") d ≡ Some (codes "edit") → edit_of d ≡ Some c → (d ≡ command_value c) × IsCommandWithin c
+unfolding edit_of
+edit_exact d c sorted n word e =
+    option_and_then_some (λ range. option_map (command.Edit range) (string_in (codes "text") d)) (range_in d) c e (λ range range_is rest.
+    behind_map (command.Edit range) (string_in (codes "text") d) c rest (λ text text_is is.
+    let parts = three_of (codes "do") (codes "range") (codes "text") d ((refl, (refl, tt)), ((refl, tt), (tt, tt))) sorted n (there as_str _ _ word) (there range_of _ _ range_is) (there as_str _ _ text_is) in
+    subst (λ v. (d ≡ command_value v) × IsCommandWithin v) is (edit_parts d range text parts word range_is text_is)))
+
+look_parts : (d : Data) (range : Range) (limit : ℕ) (parts : IsThree (codes "do") (codes "limit") (codes "range") d) → string_in (codes "do") d ≡ Some (codes "text") → range_in d ≡ Some range → whole_in max_shown (codes "limit") d ≡ Some limit
+    → (d ≡ command_value (command.Text range limit)) × (IsRangeWithin range × (limit ≤ max_shown))
+look_parts d range limit parts word range_is limit_is =
+    let x = string_exact parts.first (codes "text") (subst (λ v. string_in (codes "do") v ≡ Some (codes "text")) parts.is word) in
+    let y = whole_exact max_shown limit parts.second (subst (λ v. whole_in max_shown (codes "limit") v ≡ Some limit) parts.is limit_is) in
+    let z = range_exact parts.third range (subst (λ v. range_in v ≡ Some range) parts.is range_is) in
+    (three_made (codes "do") (codes "limit") (codes "range") d parts _ _ _ x y.0 z.0, (z.1, y.1))
+
+look_exact : (d : Data) (c : Command) → IsInKeyOrder d → member_count d ≡ 3 → string_in (codes "do") d ≡ Some (codes "text") → look_of d ≡ Some c → (d ≡ command_value c) × IsCommandWithin c
+unfolding look_of
+look_exact d c sorted n word e =
+    option_and_then_some (λ range. option_map (command.Text range) (whole_in max_shown (codes "limit") d)) (range_in d) c e (λ range range_is rest.
+    behind_map (command.Text range) (whole_in max_shown (codes "limit") d) c rest (λ limit limit_is is.
+    let parts = three_of (codes "do") (codes "limit") (codes "range") d ((refl, (refl, tt)), ((refl, tt), (tt, tt))) sorted n (there as_str _ _ word) (there (whole_of max_shown) _ _ limit_is) (there range_of _ _ range_is) in
+    subst (λ v. (d ≡ command_value v) × IsCommandWithin v) is (look_parts d range limit parts word range_is limit_is)))
+
+-- one of two ways
+either_some : {A : Type 0} (b : Bool) (o p : Option A) (y : A) → cond b o p ≡ Some y → ((b ≡ true) × (o ≡ Some y)) ⊎ (p ≡ Some y)
+either_some true o p y e = inl (refl, e)
+either_some false o p y e = inr e
+
+command_exact : (d : Data) (c : Command) → IsInKeyOrder d → command_of d ≡ Some c → (d ≡ command_value c) × IsCommandWithin c
+unfolding command_of
+command_exact d c sorted e =
+    let t = test_some (member_count d == 3) _ c e in
+    let n = eqb-true (member_count d) 3 t.0 in
+    elim (either_some (is_word (string_in (codes "do") d) (codes "edit")) (edit_of d) _ c t.1) [
+      | inl edit ↦ edit_exact d c sorted n (word_exact _ _ edit.0) edit.1
+      | inr other ↦ let look = test_some (is_word (string_in (codes "do") d) (codes "text")) (look_of d) c other in look_exact d c sorted n (word_exact _ _ look.0) look.1
+    ]
+
+commands_exact : (ds : Items) (cs : List Command) → ItemsInKeyOrder ds → commands_of ds ≡ Some cs → (ds ≡ commands_items cs) × AllByRecursion IsCommandWithin cs
+commands_exact no_items cs sorted e = subst (λ xs. (no_items ≡ commands_items xs) × AllByRecursion IsCommandWithin xs) (same_Some [] cs e) (refl, tt)
+commands_exact (item d ds) cs sorted e =
+    option_and_then_some (λ c. option_map (λ xs. c ∷ xs) (commands_of ds)) (command_of d) cs e (λ c first rest.
+    behind_map (λ xs. c ∷ xs) (commands_of ds) cs rest (λ xs others is.
+    let one = command_exact d c sorted.0 first in
+    let more = commands_exact ds xs sorted.1 others in
+    subst (λ ys. (item d ds ≡ commands_items ys) × AllByRecursion IsCommandWithin ys) is (ap₂ item one.0 more.0, (one.1, more.1))))
+
+-- ---- sessions, the opening and the whole
+
+array_exact : (d : Data) (ds : Items) → as_array d ≡ Some ds → d ≡ array ds
+array_exact null ds e = absurd (none-some ds e)
+array_exact (boolean b) ds e = absurd (none-some ds e)
+array_exact (number n) ds e = absurd (none-some ds e)
+array_exact (string s) ds e = absurd (none-some ds e)
+array_exact (array es) ds e = ap array (same_Some es ds e)
+array_exact (object ms) ds e = absurd (none-some ds e)
+
+session_exact : (d : Data) (cs : List Command) → IsInKeyOrder d → session_of d ≡ Some cs → (d ≡ array (commands_items cs)) × AllByRecursion IsCommandWithin cs
+unfolding session_of
+session_exact d cs sorted e =
+    option_and_then_some bounded (option_and_then commands_of (as_array d)) cs e (λ found found_is ends.
+    option_and_then_some commands_of (as_array d) found found_is (λ ds ds_is commands.
+    let listed = array_exact d ds ds_is in
+    let exact = commands_exact ds found (subst IsInKeyOrder listed sorted) commands in
+    let same : found ≡ cs = (cond_some (is_bounded found) found cs ends).1 in
+    subst (λ xs. (d ≡ array (commands_items xs)) × AllByRecursion IsCommandWithin xs) same (listed ∙ ap array exact.0, exact.1)))
+
+sessions_exact : (d : Data) (sessions : List (List Command)) → IsInKeyOrder d → sessions_of d ≡ Some sessions → (d ≡ array (scripts_items sessions)) × AllByRecursion (AllByRecursion IsCommandWithin) sessions
+unfolding sessions_of
+sessions_exact d sessions sorted e =
+    let t = test_some (item_count d == 1) _ sessions e in
+    let f = one_item d (eqb-true (item_count d) 1 t.0) in
+    behind_map (λ session. session ∷ []) (option_and_then session_of (at 0 d)) sessions t.1 (λ session found is.
+    let inner : session_of f.0 ≡ Some session = subst (λ v. option_and_then session_of (at 0 v) ≡ Some session) f.1 found in
+    let sorted_inner : IsInKeyOrder (array (item f.0 no_items)) = subst IsInKeyOrder f.1 sorted in
+    let one = session_exact f.0 session sorted_inner.0 inner in
+    subst (λ xs. (d ≡ array (scripts_items xs)) × AllByRecursion (AllByRecursion IsCommandWithin) xs) is (f.1 ∙ ap (λ v. array (item v no_items)) one.0, (one.1, tt)))
+
+opening_exact : (d : Data) (o : Opening) → IsInKeyOrder d → opening_of d ≡ Some o → d ≡ opening_value o
+unfolding opening_of
+opening_exact d o sorted e =
+    let t = test_some (member_count d == 1) _ o e in
+    option_and_then_some opened_by (string_in (codes "text") d) o t.1 (λ text text_is opens.
+    let part = one_of (codes "text") d sorted (eqb-true (member_count d) 1 t.0) (there as_str _ _ text_is) in
+    let x = string_exact part.0 text (subst (λ v. string_in (codes "text") v ≡ Some text) part.1 text_is) in
+    let same : opening.Text text ≡ o = (cond_some _ (opening.Text text) o opens).1 in
+    subst (λ v. d ≡ opening_value v) same (part.1 ∙ rw x refl))
+
+one_exact : (o : Option ℕ) → is_one o ≡ true → o ≡ Some 1
+one_exact None e = absurd (true≢false (sym e))
+one_exact (Some n) e = ap Some (eqb-true n 1 e)
+
+number_exact : (d : Data) (n : ℕ) → option_and_then as_u64 (as_number d) ≡ Some n → d ≡ whole n
+number_exact null n e = absurd (none-some n e)
+number_exact (boolean b) n e = absurd (none-some n e)
+number_exact (number (unsigned m)) n e = ap whole (same_Some m n e)
+number_exact (number (negative z)) n e = absurd (none-some n e)
+number_exact (number (float x)) n e = absurd (none-some n e)
+number_exact (string s) n e = absurd (none-some n e)
+number_exact (array ds) n e = absurd (none-some n e)
+number_exact (object ms) n e = absurd (none-some n e)
+
+version_exact : (o : Option Data) → is_one (option_and_then as_u64 (option_and_then as_number o)) ≡ true → o ≡ Some (whole 1)
+version_exact None e = absurd (true≢false (sym e))
+version_exact (Some d) e = ap Some (number_exact d 1 (one_exact _ e))
+
+value_parts : (d : Data) (o : Opening) (sessions : List (List Command)) (parts : IsThree (codes "open") (codes "sessions") (codes "version") d) → IsInKeyOrder d
+    → option_and_then opening_of (get (codes "open") d) ≡ Some o → option_and_then sessions_of (get (codes "sessions") d) ≡ Some sessions → get (codes "version") d ≡ Some (whole 1)
+    → (d ≡ script_value (record { version = 1; opening = o; sessions = sessions })) × AllByRecursion (AllByRecursion IsCommandWithin) sessions
+value_parts d o sessions parts sorted opens found version =
+    let within : IsInKeyOrder (object (member (codes "open") parts.first (member (codes "sessions") parts.second (member (codes "version") parts.third no_members)))) = subst IsInKeyOrder parts.is sorted in
+    let x = opening_exact parts.first o within.1.0 (subst (λ v. option_and_then opening_of (get (codes "open") v) ≡ Some o) parts.is opens) in
+    let y = sessions_exact parts.second sessions within.1.1.0 (subst (λ v. option_and_then sessions_of (get (codes "sessions") v) ≡ Some sessions) parts.is found) in
+    let z : parts.third ≡ whole 1 = same_Some _ _ (subst (λ v. get (codes "version") v ≡ Some (whole 1)) parts.is version) in
+    (three_made (codes "open") (codes "sessions") (codes "version") d parts _ _ _ x y.0 z, y.1)
+
+value_exact : (d : Data) (s : Script) → IsInKeyOrder d → script_of d ≡ Some s → (d ≡ script_value s) × AllByRecursion (AllByRecursion IsCommandWithin) s.sessions
+unfolding script_of
+value_exact d s sorted e =
+    let t = test_some ((member_count d == 3) && is_version_one d) _ s e in
+    let b = and_parts (member_count d == 3) (is_version_one d) t.0 in
+    let version = version_exact (get (codes "version") d) b.1 in
+    option_and_then_some (λ o. option_map (λ sessions. record { version = 1; opening = o; sessions = sessions }) (option_and_then sessions_of (get (codes "sessions") d)))
+    (option_and_then opening_of (get (codes "open") d)) s t.1 (λ o opens rest.
+    behind_map (λ sessions. record { version = 1; opening = o; sessions = sessions }) (option_and_then sessions_of (get (codes "sessions") d)) s rest (λ sessions found is.
+    let parts = three_of (codes "open") (codes "sessions") (codes "version") d ((refl, (refl, tt)), ((refl, tt), (tt, tt))) sorted (eqb-true (member_count d) 3 b.0)
+    (there opening_of _ _ opens) (there sessions_of _ _ found) (some_there _ _ version) in
+    subst (λ v. (d ≡ script_value v) × AllByRecursion (AllByRecursion IsCommandWithin) v.sessions) is (value_parts d o sessions parts sorted opens found version)))
+
+-- what is read as a script is its value, and it breaks no rule
+pub script_exact : (d : Data) (s : Script) → IsInKeyOrder d → script_of d ≡ Some s → (d ≡ script_value s) × BreaksNoRule s
+script_exact d s sorted e =
+    let exact = value_exact d s sorted e in
+    (exact.0, record { limits = value_within d s e; commands = exact.1 })
