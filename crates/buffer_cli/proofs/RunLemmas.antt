@@ -24,9 +24,10 @@ runs_more first now next done commands i c reply within at stepped so_far =
     let reached : after now (map call_of (c ∷ drop (i + 1) commands)) ≡ after first (map call_of commands) = rw rest at so_far.reached in
     record {
       replied = append_assoc done (reply ∷ []) (replies next (map call_of (drop (i + 1) commands)))
-        ∙ subst (λ p. done ++ (p.1 ∷ replies p.0 (map call_of (drop (i + 1) commands))) ≡ replies first (map call_of commands)) stepped replied;
+          ∙ subst (λ p. done ++ (p.1 ∷ replies p.0 (map call_of (drop (i + 1) commands))) ≡ replies first (map call_of commands)) stepped replied;
       reached = subst (λ p. after p.0 (map call_of (drop (i + 1) commands)) ≡ after first (map call_of commands)) stepped reached;
-      counted = omega (arith, so_far.counted, counted, (step_counts now c).counted) }
+      counted = omega (arith, so_far.counted, counted, (step_counts now c).counted);
+    }
 
 -- the one item of a list
 pub one_item : {A : Type 0} (xs : List A) (x : A) → length xs ≡ 1 → x ≡ get_or xs 0 x → xs ≡ x ∷ []

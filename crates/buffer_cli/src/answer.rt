@@ -6,14 +6,13 @@ ghost use Rattle.script.specs.Machine.{opening_units, call_of, step, after, repl
 ghost use Rattle.script.specs.ScriptDocument.{script_place, IsRefusalAt};
 ghost use Rattle.buffer_cli.specs.Run.{IsAnswer};
 
+use crate::document::Document;
 use points::NoMemory;
 use script::{
-    Command, Opening, Reply, Script, ScriptRefusal, Sequence, Transcript, TranscriptEnd, read_script,
-    transcript_bytes,
+    Command, Opening, Reply, Script, ScriptRefusal, Sequence, Transcript, TranscriptEnd,
+    read_script, transcript_bytes,
 };
 use std::alloc::Global;
-
-use crate::document::Document;
 
 /// The text of a lawful transcript of the script with these bytes.
 pub(crate) fn answer(alloc: Global, bytes: Vec<u8>) -> Result<Vec<u8>, ScriptRefusal>
@@ -60,7 +59,11 @@ fn opening_text(script: &Script) -> &str
 }
 
 /// Answers these commands in turn.
-fn answer_all(alloc: Global, document: &mut Document, commands: &[Command]) -> Result<Vec<Reply>, NoMemory>
+fn answer_all(
+    alloc: Global,
+    document: &mut Document,
+    commands: &[Command],
+) -> Result<Vec<Reply>, NoMemory>
     requires { document.old.count + length commands.now < 2 ^ 64 - 1 }
     ensures replies { IfOk result (λ rs. rs.items ≡ replies document.old (map call_of commands.now)) }
     ensures after { IfOk result (λ _. document.new ≡ after document.old (map call_of commands.now)) }

@@ -1,10 +1,8 @@
 ghost use Rattle.std.specs.Prelude.{◌≡◌, ℕ, ◌+◌, ◌-◌, ◌<◌, ◌≤◌, ◌^◌, ◌==◌, ◌&&◌, length, IfOk, OnErr};
-ghost use Rattle.std.specs.Char.Utf16.{is_high_surrogate, is_low_surrogate};
 ghost use Rattle.points.specs.Text.{utf16_of, text_of};
-ghost use Rattle.points.specs.Place.{clipped_offset, splits_pair};
 ghost use Rattle.script.specs.Machine.{max_units, opened, edit, text as look, step, shown};
 
-use line_text::{LineText, TextRefusal};
+use line_text::{LineText, TextRefusal, splits_pair};
 use points::{NoMemory, Range};
 use script::{CallRefusal, HitCounts, Reply, Text};
 use std::alloc::Global;
@@ -74,7 +72,7 @@ impl Document {
         ensures ok { IfOk result (λ reply. step self.old (edit range (utf16_of text.now)) ≡ (self.new, reply)) }
         ensures err { OnErr result (self.new ≡ self.old) }
     {
-        let (from, to) = span(&self.text, range);
+        let (from, to) = self.text.span(range);
         let at = self.count + 1;
         if changes_nothing(from, to, text) {
             let point = self.text.point_at(from);
@@ -111,12 +109,17 @@ impl Document {
     }
 
     /// Shows the first `limit` units of the clipped range, one fewer where that would part a surrogate pair.
-    pub(crate) fn look(&mut self, alloc: Global, range: Range, limit: u32) -> Result<Reply, NoMemory>
+    pub(crate) fn look(
+        &mut self,
+        alloc: Global,
+        range: Range,
+        limit: u32,
+    ) -> Result<Reply, NoMemory>
         requires { self.old.count < 2 ^ 64 - 1 }
         ensures ok { IfOk result (λ reply. step self.old (look range limit) ≡ (self.new, reply)) }
         ensures err { OnErr result (self.new ≡ self.old) }
     {
-        let (from, to) = span(&self.text, range);
+        let (from, to) = self.text.span(range);
         let units = shown(self.text.slice(from, to), limit as usize);
         let text = String::from_utf16_lossy(alloc, units)?;
         self.count += 1;
@@ -135,41 +138,14 @@ fn changes_nothing(from: usize, to: usize, text: &str) -> bool
     from == to && text.is_empty()
 }
 
-/// The offsets of the clipped ends of a range.
-fn span(text: &LineText, range: Range) -> (usize, usize)
-    ensures from { result.0 ≡ clipped_offset text.now range.start }
-    ensures to { result.1 ≡ clipped_offset text.now range.end }
-    ensures order { result.0 ≤ result.1 }
-    ensures within { result.1 ≤ length text.now }
-{
-    let from = text.offset_of(text.clip(range.start)).unwrap_or(0);
-    let to = text.offset_of(text.clip(range.end)).unwrap_or(0);
-    (from, to)
-}
-
 /// The first units, at most `limit`, and one fewer where that would part a surrogate pair.
 fn shown(units: &[u16], limit: usize) -> &[u16]
     ensures { result.now ≡ shown limit units.now }
 {
     let end = limit.min(units.len());
-    if splits_pair(units, end) { &units[..end - 1] } else { &units[..end] }
-}
-
-// Whether `at` stands between the two units of a surrogate pair.
-fn splits_pair(units: &[u16], at: usize) -> bool
-    ensures { result ≡ splits_pair units.now at }
-{
-    0 < at && at < units.len() && is_high(units[at - 1]) && is_low(units[at])
-}
-
-fn is_high(unit: u16) -> bool
-    ensures { result ≡ is_high_surrogate unit }
-{
-    (0xd800..0xdc00).contains(&unit)
-}
-
-fn is_low(unit: u16) -> bool
-    ensures { result ≡ is_low_surrogate unit }
-{
-    (0xdc00..0xe000).contains(&unit)
+    if splits_pair(units, end) {
+        &units[..end - 1]
+    } else {
+        &units[..end]
+    }
 }

@@ -15,13 +15,11 @@ mod status;
 #[cfg(test)]
 mod tests;
 
+use adapters::{Reading, Writing};
 pub use run::run_script;
 pub use status::Status;
-
-use adapters::{Reading, Writing};
-use std::env;
-use std::io;
 use std::process::ExitCode;
+use std::{env, io};
 
 fn main(rt: HostRuntime) -> ExitCode {
     let status = run_program(&rt);

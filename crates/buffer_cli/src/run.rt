@@ -3,14 +3,13 @@ ghost use Rattle.outer.specs.Count.{Rose};
 ghost use Rattle.outer.specs.Source.{Gives};
 ghost use Rattle.buffer_cli.specs.Run.{is_run_line, Explains, expected};
 
-use outer::{Sink, Source};
-use script::ScriptRefusal;
-use std::alloc::Global;
-
 use crate::answer::answer;
 use crate::input::{InputFault, read_to_end};
 use crate::output::write_all;
 use crate::status::Status;
+use outer::{Sink, Source};
+use script::ScriptRefusal;
+use std::alloc::Global;
 
 /// Runs the script that the input holds, and writes its transcript to the output.
 /// The words are those behind the program's name.
@@ -53,11 +52,13 @@ pub fn run_script<I: Source, O: Sink>(
             Ok(()) => Status::Done,
             Err(_) => Status::WriteFault,
         },
-        Err(ScriptRefusal::Refused {
-            session,
-            command,
-            why,
-        }) => Status::ScriptRefused {
+        Err(
+            ScriptRefusal::Refused {
+                session,
+                command,
+                why,
+            },
+        ) => Status::ScriptRefused {
             session,
             command,
             why,

@@ -65,7 +65,10 @@ impl fmt::Display for Fault {
                 session,
                 command,
                 why,
-            } => write!(f, "script refused: session {session} command {command}: {why}"),
+            } => write!(
+                f,
+                "script refused: session {session} command {command}: {why}"
+            ),
             Status::ReadFault => f.write_str("cannot read the input"),
             Status::WriteFault => f.write_str("cannot write the output"),
             Status::InputTooLong => f.write_str("input too long"),

@@ -11,8 +11,11 @@ use std::io;
 use std::test::Fail;
 
 /// The script of the program's stored run, and its transcript.
-const HI: &str = "{\"version\":1,\"open\":{\"text\":\"\"},\"sessions\":[[{\"do\":\"edit\",\"range\":[0,0,0,0],\"text\":\"hi\"},{\"do\":\"text\",\"range\":[0,0,9,9],\"limit\":100}]]}";
-const HI_TRANSCRIPT: &str = "{\"end\":{\"count\":2,\"text\":\"hi\"},\"sessions\":[[{\"at\":1,\"end\":[0,2],\"from\":[0,0],\"hits\":[0,0,0,0],\"to\":[0,0]},{\"at\":2,\"text\":\"hi\",\"units\":2}]],\"version\":1}\n";
+const HI: &str =
+    "{\"version\":1,\"open\":{\"text\":\"\"},\"sessions\":[[{\"do\":\"edit\",\"range\":[0,0,0,0],\"text\":\"hi\"},{\"do\":\"text\",\"range\":[0,0,9,9],\"limit\":100}]]}";
+
+const HI_TRANSCRIPT: &str =
+    "{\"end\":{\"count\":2,\"text\":\"hi\"},\"sessions\":[[{\"at\":1,\"end\":[0,2],\"from\":[0,0],\"hits\":[0,0,0,0],\"to\":[0,0]},{\"at\":2,\"text\":\"hi\",\"units\":2}]],\"version\":1}\n";
 
 /// This many bytes of one value.
 fn repeated(alloc: Global, byte: u8, count: usize) -> Result<Vec<u8>, AllocError>
@@ -84,16 +87,15 @@ fn runs_scripts(rt: HostRuntime) -> Result<(), Fail> {
     Ok(())
 }
 
-/// The status of a run, over an input and an output that fail their first call or don't.
-/// A run that isn't Done leaves the output as it was.
+/// The status of a run and how many bytes it wrote, over an input and an output that fail their
+/// first call or don't.
 fn status_of(
-    rt: &HostRuntime,
+    alloc: Global,
     line: &[&str],
     script: &[u8],
     read_fails: bool,
     put_fails: bool,
-) -> Result<Status, Fail> {
-    let alloc = rt.alloc();
+) -> Result<(Status, usize), Fail> {
     let mut reads = Vec::new(alloc);
     if read_fails {
         reads.push(1)?;
@@ -103,8 +105,7 @@ fn status_of(
         puts.push(1)?;
     }
     let (status, output) = run(alloc, line, script.to_vec(alloc)?, reads, puts)?;
-    assert_eq!(rt; output.bytes().len(), 0);
-    Ok(status)
+    Ok((status, output.bytes().len()))
 }
 
 #[test]
@@ -119,15 +120,40 @@ fn answers_each_fault(rt: HostRuntime) -> Result<(), Fail> {
         command: 0,
         why: ScriptRule::BadShape,
     };
+    let alloc = rt.alloc();
     let hi = HI.as_bytes();
-    assert_eq!(rt; status_of(&rt, &[], hi, false, false)?, Status::Usage);
-    assert_eq!(rt; status_of(&rt, &["check"], hi, false, false)?, Status::Usage);
-    assert_eq!(rt; status_of(&rt, &["run", "run"], hi, false, false)?, Status::Usage);
-    assert_eq!(rt; status_of(&rt, &["run"], b"{\"version\":1,", false, false)?, not_json);
-    assert_eq!(rt; status_of(&rt, &["run"], b"", false, false)?, not_json);
-    assert_eq!(rt; status_of(&rt, &["run"], b"{}", false, false)?, misshapen);
-    assert_eq!(rt; status_of(&rt, &["run"], hi, true, false)?, Status::ReadFault);
-    assert_eq!(rt; status_of(&rt, &["run"], hi, false, true)?, Status::WriteFault);
+    assert_eq!(rt;
+        status_of(alloc, &[], hi, false, false)?,
+        (Status::Usage, 0)
+    );
+    assert_eq!(rt;
+        status_of(alloc, &["check"], hi, false, false)?,
+        (Status::Usage, 0)
+    );
+    assert_eq!(rt;
+        status_of(alloc, &["run", "run"], hi, false, false)?,
+        (Status::Usage, 0)
+    );
+    assert_eq!(rt;
+        status_of(alloc, &["run"], b"{\"version\":1,", false, false)?,
+        (not_json, 0)
+    );
+    assert_eq!(rt;
+        status_of(alloc, &["run"], b"", false, false)?,
+        (not_json, 0)
+    );
+    assert_eq!(rt;
+        status_of(alloc, &["run"], b"{}", false, false)?,
+        (misshapen, 0)
+    );
+    assert_eq!(rt;
+        status_of(alloc, &["run"], hi, true, false)?,
+        (Status::ReadFault, 0)
+    );
+    assert_eq!(rt;
+        status_of(alloc, &["run"], hi, false, true)?,
+        (Status::WriteFault, 0)
+    );
     Ok(())
 }
 
@@ -156,7 +182,9 @@ fn runs_over_sure_twins(rt: HostRuntime) -> Result<(), Fail> {
 #[test]
 fn refuses_an_edit_past_the_limit(rt: HostRuntime) -> Result<(), Fail> {
     let alloc = rt.alloc();
-    let letters = String::from_utf8(repeated(alloc, b'a', 1 << 24)?).ok().ok_or("letters")?;
+    let letters = String::from_utf8(repeated(alloc, b'a', 1 << 24)?)
+        .ok()
+        .ok_or("letters")?;
     let origin = Point { row: 0, column: 0 };
     let start = Range::new(origin, origin);
     let mut document = Document::open(alloc, "")?;
@@ -164,10 +192,27 @@ fn refuses_an_edit_past_the_limit(rt: HostRuntime) -> Result<(), Fail> {
     assert!(rt; matches!(first, Reply::Edited { at: 1, .. }));
     assert!(rt; document.count() < 9);
     let second = document.edit(start, "b")?;
-    assert!(rt; matches!(second, Reply::Refused { at: 2, no: CallRefusal::TooLong }));
+    assert!(rt;
+        matches!(
+            second,
+            Reply::Refused {
+                at: 2,
+                no: CallRefusal::TooLong
+            }
+        )
+    );
     assert!(rt; document.count() < 9);
     let third = document.look(alloc, start, 1)?;
-    assert!(rt; matches!(third, Reply::Text { at: 3, units: 0, .. }));
+    assert!(rt;
+        matches!(
+            third,
+            Reply::Text {
+                at: 3,
+                units: 0,
+                ..
+            }
+        )
+    );
     assert_eq!(rt; document.to_text(alloc)?.as_str(), letters.as_str());
     Ok(())
 }
@@ -181,7 +226,11 @@ fn prints_one_line_for_each_fault(rt: HostRuntime) -> Result<(), Fail> {
         why: ScriptRule::BadShape,
     };
     let cases = [
-        (Status::Usage, 2, "usage: run [--workers N] | bulk FIRST EDITS WORKERS | check SCRIPT TRANSCRIPT | make FIRST EDITS SESSIONS"),
+        (
+            Status::Usage,
+            2,
+            "usage: run [--workers N] | bulk FIRST EDITS WORKERS | check SCRIPT TRANSCRIPT | make FIRST EDITS SESSIONS",
+        ),
         (refused, 3, "script refused: session 2 command 7: BadShape"),
         (Status::ReadFault, 4, "cannot read the input"),
         (Status::WriteFault, 5, "cannot write the output"),

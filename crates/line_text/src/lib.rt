@@ -16,4 +16,5 @@ mod text;
 
 pub use ending::Ending;
 pub use refusal::TextRefusal;
+pub use rows::splits_pair;
 pub use text::{LineText, MAX_UNITS, Replaced};

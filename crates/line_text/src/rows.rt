@@ -204,8 +204,8 @@ fn clipped_column(line: &[u16], column: usize) -> usize
     }
 }
 
-// Whether `column` stands between the two units of a surrogate pair.
-fn splits_pair(line: &[u16], column: usize) -> bool
+/// Whether offset `column` of a line stands between the two units of a surrogate pair.
+pub fn splits_pair(line: &[u16], column: usize) -> bool
     ensures { result ≡ splits_pair line.now column }
 {
     0 < column && column < line.len() && is_high(line[column - 1]) && is_low(line[column])

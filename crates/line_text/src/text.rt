@@ -142,6 +142,16 @@ impl LineText {
         self.rows_kept().clip(point)
     }
 
+    /// The offsets of the clipped ends of a range.
+    pub fn span(&self, range: Range) -> (usize, usize)
+        ensures from { result.0 ≡ clipped_offset self.now range.start }
+        ensures to { result.1 ≡ clipped_offset self.now range.end }
+        ensures order { result.0 ≤ result.1 }
+        ensures within { result.1 ≤ length self.now }
+    {
+        self.rows_kept().span(range)
+    }
+
     /// The units from one offset up to another, lent.
     pub fn slice(&self, from: usize, to: usize) -> &[u16]
         requires order { from ≤ to }

@@ -15,7 +15,7 @@ use Rattle.script.specs.declared.reply.CallRefusal.TheVariants.{TooLong}
 use Rattle.script.specs.declared.reply.Reply.{Reply}
 use Rattle.script.specs.declared.reply.Reply.TheVariants as reply
 use Rattle.script.specs.Machine.{State, opened, step, call_of, after, replies, edit_step, counted, changed, edited, edited_nothing, max_units}
-use Rattle.script.specs.Lawful.{number_of, has_form, have_forms, Entry, session_entries, entries, has_number, numbered, state_after, HasForm, CallsAgree, EndAgrees, IsLawful, IsReplyAt}
+use Rattle.script.specs.Lawful.{number_of, has_form, have_forms, Entry, session_entries, entries, has_number, numbered, state_after, HasForm, CallsAgree, EndAgrees, IsLawful}
 use Rattle.script.specs.Laws.{plain_transcript, PlainIsLawful}
 
 -- what a command gave: the next number, and a reply of its form

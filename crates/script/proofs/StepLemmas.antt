@@ -1,5 +1,5 @@
 -- What one step of the plain machine answers, case by case: for the programs that follow it.
-use Rattle.std.proofs.Common.{◌≡◌, ℕ, ◌+◌, ◌-◌, ◌<◌, ◌≤◌, List, length, Bool, true, false, cond, eqb, ltb, refl, sym, subst, ap, ◌∙◌, arith, inl, inr}
+use Rattle.std.proofs.Common.{◌≡◌, ℕ, ◌+◌, ◌-◌, ◌<◌, ◌≤◌, List, length, Bool, true, false, refl, sym, subst, ap, ◌∙◌, inl, inr}
 use Rattle.std.specs.Prelude.{◌==◌, ◌&&◌, nat_lt, Result, Ok, Err, ◌↔◌}
 use Rattle.std.proofs.lemmas.Bool.{lt-ltb, le-ltb, cases_lt}
 use Rattle.points.specs.declared.point.Point.{Point}
@@ -10,7 +10,7 @@ use Rattle.points.proofs.ClipLemmas.{clipped_at}
 use Rattle.script.specs.declared.reply.CallRefusal.TheVariants.{TooLong}
 use Rattle.script.specs.declared.reply.Reply.{Reply}
 use Rattle.script.specs.declared.reply.Reply.TheVariants as reply
-use Rattle.script.specs.Machine.{State, max_units, step, edit, text, counted, no_hits, edited_nothing, edited, changed, edit_step, shown, between}
+use Rattle.script.specs.Machine.{State, max_units, step, edit, text, counted, no_hits, edited, changed, edit_step, shown, between}
 
 -- the edit from offset i to offset j puts nothing in and takes nothing out
 abbrev pub is_nothing : ℕ → ℕ → List ℕ → Bool

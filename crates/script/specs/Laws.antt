@@ -18,7 +18,3 @@ plain_transcript opening commands = record {
 -- that transcript is lawful
 abbrev pub PlainIsLawful : Type 0
 PlainIsLawful = (script : Script) (opening : List ℕ) (commands : List Command) → script.sessions ≡ commands ∷ [] → IsLawful script opening (plain_transcript opening commands)
-
--- and no other is
-abbrev pub LawfulIsPlain : Type 0
-LawfulIsPlain = (script : Script) (opening : List ℕ) (commands : List Command) (t : Transcript) → script.sessions ≡ commands ∷ [] → IsLawful script opening t → t ≡ plain_transcript opening commands
