@@ -1,6 +1,6 @@
 -- Reads in a row, and what a loop that reads keeps.
-use Rattle.std.proofs.Common.{◌≡◌, ℕ, ◌+◌, ◌≤◌, List, [], ◌++◌, length, take, append-nil, length-append, Option, Some, None, ◌^◌, refl, ap, subst, inl, inr, arith, ◌∙◌, append_assoc}
-use Rattle.std.specs.Prelude.{option_map, Vec, Err}
+use Rattle.std.proofs.Common.{◌≡◌, ℕ, ◌+◌, ◌≤◌, List, ◌++◌, length, length-append, Option, ◌^◌, ap, arith}
+use Rattle.std.specs.Prelude.{Vec, Err}
 use Rattle.std.specs.declared.alloc.Global.{Global}
 use Rattle.outer.specs.Source.{Gives}
 use Rattle.outer.proofs.Given.{Gives-append}

@@ -1,5 +1,5 @@
 -- A run of the plain machine, command by command.
-use Rattle.std.proofs.Common.{◌≡◌, ℕ, suc, ◌+◌, ◌<◌, List, [], ◌∷◌, ◌++◌, length, map, drop, get_or, refl, sym, subst, ap, ◌∙◌, arith, append_assoc, append-nil, add-one, drop-cons}
+use Rattle.std.proofs.Common.{◌≡◌, ℕ, suc, ◌+◌, ◌<◌, List, [], ◌∷◌, ◌++◌, length, map, drop, get_or, sym, subst, ap, ◌∙◌, arith, append_assoc, add-one, drop-cons}
 use Rattle.script.specs.declared.command.Command.{Command}
 use Rattle.script.specs.declared.reply.Reply.{Reply}
 use Rattle.script.proofs.OneSession.{step_counts}

@@ -1,6 +1,6 @@
 -- Reading an input to its end, up to a limit.
-use Rattle.std.specs.Prelude.{◌≡◌, ◌↔◌, ℕ, ◌+◌, ◌^◌, ◌≤◌, List, ◌++◌, length, Option, Result, Ok, Err, IfOk}
-use Rattle.std.specs.Prelude.{Vec, [], IfSome}
+use Rattle.std.specs.Prelude.{◌≡◌, ℕ, ◌+◌, ◌^◌, ◌≤◌, List, ◌++◌, length, Option, Result, Ok, Err}
+use Rattle.std.specs.Prelude.{Vec, []}
 use Rattle.std.specs.declared.alloc.Global.{Global}
 use Rattle.outer.specs.Source.{Gives, IsAtEnd, IsEndOf}
 use Rattle.buffer_cli.specs.declared.input.InputFault.{InputFault}

@@ -1,8 +1,8 @@
 -- What a run of the program says: each status with its cause.
-use Rattle.std.specs.Prelude.{◌≡◌, ◌⊎◌, ℕ, ◌+◌, ◌≤◌, nat_lt, List, [], ◌∷◌, length, codes, Bool, true, false, if◌then◌else◌, Option, Some, None, String, string_bytes}
+use Rattle.std.specs.Prelude.{◌≡◌, ℕ, ◌+◌, ◌≤◌, nat_lt, List, [], ◌∷◌, length, codes, Bool, false, if◌then◌else◌, Option, Some, None, String, string_bytes}
 use Rattle.std.specs.declared.alloc.Global.{Global}
 use Rattle.std.specs.Str.{bytes_eq}
-use Rattle.outer.specs.Source.{Gives, IsAtEnd}
+use Rattle.outer.specs.Source.{IsAtEnd}
 use Rattle.outer.specs.Sink.{Appends, AppendsPrefix}
 use Rattle.script.specs.declared.command.Script.{Script}
 use Rattle.script.specs.declared.reply.Transcript.{Transcript}

@@ -1,4 +1,3 @@
-use Rattle.std.proofs.Common.{◌≡◌}
 use Rattle.buffer_cli.proofs.RunLemmas.{runs_more}
 use Rattle.buffer_cli.proofs.answer.answer_all.Goals as goal
 

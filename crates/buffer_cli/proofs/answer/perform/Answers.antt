@@ -1,6 +1,6 @@
-use Rattle.std.proofs.Common.{◌≡◌, List, [], ◌∷◌, map, refl, sym, ap, ◌∙◌}
+use Rattle.std.proofs.Common.{◌≡◌, [], ◌∷◌, map, refl, sym, ap, ◌∙◌}
 use Rattle.points.specs.Text.{text_of}
-use Rattle.script.specs.Machine.{State, opened, opening_units, call_of, after, replies}
+use Rattle.script.specs.Machine.{State, opened, opening_units, call_of, after}
 use Rattle.script.proofs.OneSession.{lawful_from_parts}
 use Rattle.buffer_cli.proofs.RunLemmas.{one_item}
 use Rattle.buffer_cli.proofs.answer.perform.Goals as goal

@@ -1,4 +1,4 @@
-use Rattle.std.proofs.Common.{◌≡◌, ℕ, ◌+◌, ◌≤◌, List, length, take, refl, arith}
+use Rattle.std.proofs.Common.{◌+◌, ◌≤◌, length, take, arith}
 use Rattle.std.proofs.lemmas.List.{length-take}
 use Rattle.buffer_cli.specs.Input.{max_input}
 use Rattle.buffer_cli.proofs.ReadingLemmas.{reads_stopped}

@@ -1,4 +1,4 @@
-use Rattle.std.proofs.Common.{ℕ, ◌+◌, ◌-◌, vec_len}
+use Rattle.std.proofs.Common.{◌+◌, ◌-◌, vec_len}
 use Rattle.buffer_cli.specs.Input.{max_input}
 use Rattle.buffer_cli.proofs.ReadingLemmas.{ReadsSoFar}
 use Rattle.buffer_cli.proofs.input.read_to_end.Given as goal

@@ -1,4 +1,3 @@
-use Rattle.std.proofs.Common.{rules}
 use Rattle.outer.proofs.Appended.{AppendsPrefix-all}
 use Rattle.buffer_cli.proofs.output.write_all.Goals as goal
 

@@ -1,7 +1,6 @@
-use Rattle.std.proofs.Common.{◌≡◌, ℕ, ◌+◌, ◌≤◌, length, refl, sym, subst, ap, ◌∙◌, arith, Ok, Err}
+use Rattle.std.proofs.Common.{refl, sym, ap, ◌∙◌, Ok, Err}
 use Rattle.points.specs.Text.{utf16_of}
 use Rattle.line_text.specs.declared.refusal.TextRefusal.TheVariants.{TooLong}
-use Rattle.script.specs.Machine.{step, edit}
 use Rattle.script.proofs.StepLemmas.{edit_nothing, edit_too_long, edit_changes, within_limit}
 use Rattle.buffer_cli.proofs.document.Document.edit.Goals as goal
 

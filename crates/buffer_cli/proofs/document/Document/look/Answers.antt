@@ -1,4 +1,4 @@
-use Rattle.std.proofs.Common.{◌≡◌, ℕ, ◌-◌, refl, sym, ap, ◌∙◌}
+use Rattle.std.proofs.Common.{refl, ap, ◌∙◌}
 use Rattle.points.specs.Text.{text_of}
 use Rattle.script.specs.Machine.{shown}
 use Rattle.script.proofs.StepLemmas.{look_shows}
