@@ -8,8 +8,10 @@ ghost use Rattle.line_text.specs.Size.{size_of};
 ghost use Rattle.line_text.specs.Starts.{starts_from, starts_of, CanMove};
 
 use crate::encode::{Size, write_units};
+use crate::ending::LINE_FEED;
 use crate::rows::Rows;
 use points::NoMemory;
+use std::alloc::Global;
 
 /// Replaces the units from `from` up to `to` by those of `text`, and mends the starts.
 pub(crate) fn replace_units(
@@ -31,7 +33,7 @@ pub(crate) fn replace_units(
     ensures err { OnErr result (units.new.items ≡ units.old.items) }
     ensures err_starts { OnErr result (starts.new.items ≡ starts.old.items) }
 {
-    let (first, last) = rows_between(units, starts, from, to);
+    let (first, last) = rows_between(units.as_slice(), starts.as_slice(), from, to);
     make_room(units, size.units, to - from)?;
     make_room(starts, size.feeds, last - first)?;
     edit_units(units, from, to, text, size.units);
@@ -49,15 +51,15 @@ pub(crate) fn replace_units(
 }
 
 /// The starts of the rows of these units.
-pub(crate) fn starts_of(units: &Vec<u16>) -> Result<Vec<u32>, NoMemory>
-    requires { vec_len units.now ≤ 2 ^ 24 }
-    ensures { IfOk result (λ starts. starts.items ≡ starts_of units.now.items) }
+pub(crate) fn starts_of(alloc: Global, units: &[u16]) -> Result<Vec<u32>, NoMemory>
+    requires { length units.now ≤ 2 ^ 24 }
+    ensures { IfOk result (λ starts. starts.items ≡ starts_of units.now) }
 {
-    let mut starts = Vec::new(*units.allocator());
-    let len = count_feeds(units.as_slice());
+    let mut starts = Vec::new(alloc);
+    let len = count_feeds(units);
     make_room(&mut starts, len, 0)?;
     open_gap(&mut starts, 0, 0, len, 0);
-    write_starts(starts.as_mut_slice(), units.as_slice(), 0);
+    write_starts(starts.as_mut_slice(), units, 0);
     Ok(starts)
 }
 
@@ -65,24 +67,21 @@ pub(crate) fn starts_of(units: &Vec<u16>) -> Result<Vec<u32>, NoMemory>
 fn count_feeds(units: &[u16]) -> usize
     ensures { result ≡ count_by is_lf units.now }
 {
-    units.iter().filter(|unit| **unit == 10).count()
+    units.iter().filter(|unit| **unit == LINE_FEED).count()
 }
 
 // The rows in which the offsets `from` and `to` lie.
-fn rows_between(units: &Vec<u16>, starts: &Vec<u32>, from: usize, to: usize) -> (usize, usize)
-    requires kept { starts.now.items ≡ starts_of units.now.items }
-    requires short { vec_len units.now ≤ 2 ^ 24 }
+fn rows_between(units: &[u16], starts: &[u32], from: usize, to: usize) -> (usize, usize)
+    requires kept { starts.now ≡ starts_of units.now }
+    requires short { length units.now ≤ 2 ^ 24 }
     requires order { from ≤ to }
-    requires within { to ≤ vec_len units.now }
-    ensures first { result.0 ≡ count_by is_lf (take from units.now.items) }
-    ensures last { result.1 ≡ count_by is_lf (take to units.now.items) }
+    requires within { to ≤ length units.now }
+    ensures first { result.0 ≡ count_by is_lf (take from units.now) }
+    ensures last { result.1 ≡ count_by is_lf (take to units.now) }
     ensures order { result.0 ≤ result.1 }
-    ensures within { result.1 ≤ vec_len starts.now }
+    ensures within { result.1 ≤ length starts.now }
 {
-    let rows = Rows {
-        units: units.as_slice(),
-        starts: starts.as_slice(),
-    };
+    let rows = Rows { units, starts };
     (rows.row_at(from), rows.row_at(to))
 }
 
@@ -161,7 +160,7 @@ fn write_starts(into: &mut [u32], units: &[u16], base: u32)
     let mut behind = base;
     for unit in units {
         behind += 1;
-        if *unit == 10 {
+        if *unit == LINE_FEED {
             into[at] = behind;
             at += 1;
         }

@@ -9,7 +9,7 @@ ghost use Rattle.points.specs.Place.{extent, point_at, offset_of, row_of, row_st
 ghost use Rattle.line_text.specs.Ending.{ending_of};
 ghost use Rattle.line_text.specs.Starts.{starts_of};
 
-use crate::ending::Ending;
+use crate::ending::{CARRIAGE_RETURN, Ending};
 use points::{Point, Range};
 
 /// The units of a text and the starts of its rows, lent.
@@ -180,7 +180,7 @@ fn without_cr(units: &[u16]) -> &[u16]
     ensures { result.now ≡ (if ends_with_cr units.now then take (length units.now - 1) units.now else units.now) }
 {
     match units {
-        [line @ .., 13] => line,
+        [line @ .., CARRIAGE_RETURN] => line,
         _ => units,
     }
 }
@@ -189,7 +189,7 @@ fn without_cr(units: &[u16]) -> &[u16]
 fn ends_with_cr(units: &[u16]) -> bool
     ensures { result ≡ ends_with_cr units.now }
 {
-    matches!(units, [.., 13])
+    matches!(units, [.., CARRIAGE_RETURN])
 }
 
 // The column of a line that `column` is clipped to: within the line, and outside a pair.

@@ -68,7 +68,7 @@ impl LineText {
             return Err(TextRefusal::TooLong);
         }
         let units = units.into_vec();
-        let starts = starts_of(&units)?;
+        let starts = starts_of(*units.allocator(), units.as_slice())?;
         Ok(LineText { units, starts })
     }
 

@@ -1,4 +1,5 @@
-use Rattle.std.proofs.Common.{◌∷◌, [], ◌++◌, length, sym, ap, ◌∙◌, arith}
+use Rattle.std.proofs.Common.{◌≡◌, ◌+◌, ◌≤◌, ◌∷◌, [], ◌++◌, length, sym, ap, ◌∙◌, arith}
+use Rattle.std.specs.Char.Escape.{encode_utf16}
 use Rattle.std.specs.Str.{chars}
 use Rattle.std.proofs.lemmas.Iterator.{YieldsList-from_chars}
 use Rattle.std.proofs.lemmas.Iterator.Consumers.{YieldsList-so_far, YieldsList-turn, YieldsList-end}
@@ -10,13 +11,14 @@ use Rattle.line_text.proofs.EncodeLemmas.{next_fits, length-encode, length-utf16
 use Rattle.line_text.proofs.encode.size_within.Goals as goal
 
 pub returns-then-room-size : goal.returns-then-room-size
-returns-then-room-size c = let text = YieldsList-from_chars c.args.text.now c.utf8.text cc in
-    let before = YieldsList-so_far text c.loop-c.yielded _ c.loop-c.yielded_by in
-    let turn = YieldsList-turn text c.loop-c.yielded _ c.loop-c.yielded_by _ _ c.in-Some.c c.in-Some.is c.next.ensures.steps in
-    let fits = next_fits (chars c.args.text.now) c.loop-c.yielded c.in-Some.c before turn in
-    let more = length-encode c.in-Some.c c.len_utf16.result c.len_utf16.ensures.bmp c.len_utf16.ensures.surrogate_pair in
+returns-then-room-size c = let more = length-encode c.in-Some.c c.len_utf16.result c.len_utf16.ensures.bmp c.len_utf16.ensures.surrogate_pair in
     let units = ap (λ (s : Size). s.units) c.loop-c.invariant.counted in
     λ h. omega (arith, fits, more, units, c.loop-c.invariant.fits)
+  where
+    fits : length (utf16 c.loop-c.yielded) + length (encode_utf16 c.in-Some.c) ≤ length (utf16 (chars c.args.text.now))
+    fits = let text = YieldsList-from_chars c.args.text.now c.utf8.text cc in
+        next_fits (chars c.args.text.now) c.loop-c.yielded c.in-Some.c (YieldsList-so_far text c.loop-c.yielded _ c.loop-c.yielded_by)
+        (YieldsList-turn text c.loop-c.yielded _ c.loop-c.yielded_by _ _ c.in-Some.c c.in-Some.is c.next.ensures.steps)
 
 pub loop-c-preserved-then-c-eq10 : goal.loop-c-preserved-then-c-eq10
 loop-c-preserved-then-c-eq10 c = let more = length-encode c.in-Some.c c.len_utf16.result c.len_utf16.ensures.bmp c.len_utf16.ensures.surrogate_pair in
@@ -30,7 +32,8 @@ loop-c-preserved-then-c-eq10 c = let more = length-encode c.in-Some.c c.len_utf1
     }
 
 pub returns : goal.returns
-returns c = let whole = YieldsList-end (YieldsList-from_chars c.args.text.now c.utf8.text cc) c.loop-c.yielded _ c.loop-c.yielded_by _ _ c.in-None.is c.next.ensures.steps in
-    let all = ap utf16 (sym (map-id c.loop-c.yielded) ∙ whole.0) in
-    let units = ap (λ (s : Size). s.units) c.loop-c.invariant.counted in
+returns c = let units = ap (λ (s : Size). s.units) c.loop-c.invariant.counted in
     (omega (arith, units, ap length all, c.loop-c.invariant.fits), c.loop-c.invariant.counted ∙ ap size_of all)
+  where
+    all : utf16 c.loop-c.yielded ≡ utf16 (chars c.args.text.now)
+    all = ap utf16 (sym (map-id c.loop-c.yielded) ∙ (YieldsList-end (YieldsList-from_chars c.args.text.now c.utf8.text cc) c.loop-c.yielded _ c.loop-c.yielded_by _ _ c.in-None.is c.next.ensures.steps).0)
