@@ -1,0 +1,47 @@
+ghost use Rattle.std.specs.Prelude.{◌≡◌};
+
+use points::{Range, Units};
+
+/// One change: the range that it replaced in the old text, the range that it made in the new text,
+/// and the units that stand there. A text's extent is that of its range.
+#[derive(Debug, Drop)]
+pub struct Change {
+    pub old_range: Range,
+    pub new_range: Range,
+    pub old_text: Units,
+    pub new_text: Units,
+}
+
+/// A change of a patch, with its two texts lent.
+#[derive(Clone, Copy, Debug)]
+pub struct ChangeView<'a> {
+    pub old_range: Range,
+    pub new_range: Range,
+    pub old_text: &'a [u16],
+    pub new_text: &'a [u16],
+}
+
+impl Change {
+    /// The change, with its texts lent.
+    pub(crate) fn lent(&self) -> ChangeView<'_>
+        ensures old_range { result.old_range ≡ self.now.old_range }
+        ensures new_range { result.new_range ≡ self.now.new_range }
+        ensures old_text { result.old_text.now ≡ self.now.old_text }
+        ensures new_text { result.new_text.now ≡ self.now.new_text }
+    {
+        ChangeView {
+            old_range: self.old_range,
+            new_range: self.new_range,
+            old_text: self.old_text.as_slice(),
+            new_text: self.new_text.as_slice(),
+        }
+    }
+}
+
+/// Changes of a patch that stand in a row: the index of the first, and how many there are. Where
+/// there is none, both are 0.
+#[derive(Clone, Copy, Debug, PartialEq, Eq, Hash)]
+pub struct Run {
+    pub first: usize,
+    pub count: usize,
+}

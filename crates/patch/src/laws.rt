@@ -1,0 +1,13 @@
+//! Laws on patches: each is a function whose contract is the law.
+ghost use Rattle.std.specs.Prelude.{ℕ, List};
+ghost use Rattle.patch.specs.Fit.{Fits};
+
+use crate::patch::Patch;
+
+/// Some text fits every patch: each stretch between its changes may be as many line feeds and
+/// letters as reach over it.
+pub fn some_text_fits(patch: &Patch)
+    ensures { (s : List ℕ) × Fits patch.now s }
+{
+    let _kept = patch.as_slice();
+}

@@ -1,0 +1,21 @@
+//! Patches: what changed between an old text and a new one, whatever edits led there.
+//!
+//! A patch is a list of changes, sorted and never touching, each with its range and its text on
+//! both sides. It holds no text but those of its changes, so it stands for the same edits on every
+//! text that it fits. Points count rows and UTF-16 units, from 0.
+#![tactic(auto)]
+
+mod change;
+mod check;
+mod copies;
+pub mod laws;
+mod lookup;
+mod patch;
+mod place;
+mod refusal;
+#[cfg(test)]
+mod tests;
+
+pub use change::{Change, ChangeView, Run};
+pub use patch::{MAX_CHANGES, Patch};
+pub use refusal::ListRefusal;
