@@ -1,0 +1,14 @@
+pub mod ItemLemmas
+pub mod NodeLemmas
+pub mod TreeLemmas
+pub mod Lift
+pub mod LiftCalls
+pub mod Zip
+pub mod Climb
+pub mod Walk
+pub mod WalkSums
+pub mod JoinLemmas
+pub mod JoinCalls
+pub mod ChangeCalls
+pub mod SplayLemmas
+pub mod CutLemmas

@@ -1,0 +1,9 @@
+pub mod Items
+pub mod Tree
+pub mod Nodes
+pub mod Sums
+pub mod Places
+pub mod Joins
+pub mod Splay
+pub mod Changes
+pub mod Reads
