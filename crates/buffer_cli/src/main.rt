@@ -30,8 +30,10 @@ fn main(rt: HostRuntime) -> ExitCode {
 }
 
 fn run_program(rt: &HostRuntime) -> Status {
-    let Ok(mut args) = env::args(rt) else {
-        return Status::Usage;
+    let mut args = match env::args(rt) {
+        Ok(args) => args,
+        Err(error) if error.kind() == io::ErrorKind::OutOfMemory => return Status::NoMemory,
+        Err(_) => return Status::Usage,
     };
     let alloc = rt.alloc();
     let _program = args.next();
