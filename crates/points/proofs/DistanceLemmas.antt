@@ -1,14 +1,14 @@
 -- The extents of parts of a text, and of a text in which units were replaced.
-use Rattle.std.proofs.Common.{◌≡◌, ℕ, suc, ◌+◌, ◌-◌, ◌<◌, ◌≤◌, List, [], ◌∷◌, ◌++◌, length, take, drop, get_or, Bool, true, refl, sym, ap, ◌∙◌, subst, arith, length-append, length-drop, length-take}
+use Rattle.std.proofs.Common.{◌≡◌, ℕ, ◌+◌, ◌<◌, ◌≤◌, List, [], ◌∷◌, ◌++◌, length, take, drop, get_or, sym, ap, ◌∙◌, arith, length-append, length-take}
 use Rattle.std.proofs.lemmas.List.{take_more, take_all, take-take, take-append-drop, take_at, take-append-le, length-take-le, append_assoc, drop-take}
 use Rattle.std.proofs.Math.Seq.{take-append-add}
 use Rattle.std.proofs.lemmas.List.Sums.{count_by-le-length, suffix_len-le-length}
 use Rattle.points.specs.declared.point.Point.{Point}
-use Rattle.points.specs.Point.{IsWithin, traverse, traversal, point_le}
+use Rattle.points.specs.Point.{IsWithin, traverse, traversal}
 use Rattle.points.specs.Text.{is_lf, replaced}
 use Rattle.points.specs.Place.{extent, point_at}
 use Rattle.points.proofs.ExtentLemmas.{is_no_lf, extent-append}
-use Rattle.points.proofs.PointLemmas.{traversal-traverse, traverse_assoc}
+use Rattle.points.proofs.PointLemmas.{traversal-traverse}
 
 -- no coordinate passes the number of units
 pub extent_within : (t : List ℕ) (limit : ℕ) → length t ≤ limit → IsWithin limit (extent t)

@@ -1,17 +1,16 @@
 -- What stands at the ends of rows, and that no clipped point parts a pair.
-use Rattle.std.proofs.Common.{◌≡◌, ℕ, suc, zero, ◌+◌, ◌-◌, ◌<◌, ◌≤◌, ◌⊎◌, List, [], ◌∷◌, length, take, drop, get_or, cond, min, eqb, ltb, Bool, true, false, ◌&&◌, refl, sym, ap, ◌∙◌, inl, inr, subst, arith}
+use Rattle.std.proofs.Common.{◌≡◌, ℕ, suc, zero, ◌+◌, ◌-◌, ◌<◌, ◌≤◌, List, [], ◌∷◌, length, take, drop, get_or, cond, min, eqb, ltb, Bool, true, false, ◌&&◌, refl, sym, ap, ◌∙◌, inl, inr, subst, arith}
 use Rattle.std.specs.Char.Utf16.{is_high_surrogate, is_low_surrogate}
 use Rattle.std.proofs.lemmas.List.{get_or-take, get_or-drop, get_or_past, take_min, take_all, length-take}
 use Rattle.std.proofs.lemmas.List.Sums.{count_by_more_no}
-use Rattle.std.proofs.lemmas.Bool.{cases_Bool, cases_order, cases_lt, both_ways, and_left, and_right, and_parts, eqb-true, ltb-true, ltb-false, lt-ltb, false≢true}
+use Rattle.std.proofs.lemmas.Bool.{cases_Bool, cases_lt, and_left, and_right, and_parts, false≢true}
 use Rattle.std.proofs.lemmas.Bool.Decides.{nat_tests}
 use Rattle.points.specs.declared.point.Point.{Point}
 use Rattle.points.specs.Text.{is_lf, CR, IsWellFormed, replaced}
-use Rattle.points.specs.Place.{row_start, row_of, line_of, ends_with_cr, point_at, splits_pair, clipped_column, clipped_offset}
+use Rattle.points.specs.Place.{row_start, row_of, line_of, ends_with_cr, splits_pair, clipped_column, clipped_offset}
 use Rattle.points.proofs.ExtentLemmas.{feeds}
-use Rattle.points.proofs.PointLemmas.{at_row_column}
 use Rattle.points.proofs.RowLemmas.{IsRowAt, row_is, row_start_next, row_end_last}
-use Rattle.points.proofs.ClipLemmas.{clipped_column_le_line, line_le_row, clipped_offset_in, clipped_offset_past, IsClippedAt, clipped_at}
+use Rattle.points.proofs.ClipLemmas.{clipped_column_le_line, line_le_row, clipped_offset_in, clipped_offset_past, clipped_at}
 use Rattle.points.proofs.WellFormedLemmas.{splits_none, well_formed-replaced}
 
 -- a row but the last is followed by its line feed

@@ -8,3 +8,6 @@ pub mod WellFormedLemmas
 pub mod EndingLemmas
 pub mod MendingLemmas
 pub mod DistanceLemmas
+mod MarkRows
+pub mod MarkLemmas
+pub mod MarkListLemmas

@@ -40,6 +40,15 @@ point_le_trans p q r a b = grind (arith, nat_tests)
 pub point_le_antisym : (p q : Point) → point_le p q ≡ true → point_le q p ≡ true → p ≡ q
 point_le_antisym p q a b = same_coordinates p q (grind (arith, nat_tests)) (grind (arith, nat_tests))
 
+pub point_lt_le_trans : (p q r : Point) → point_lt p q ≡ true → point_le q r ≡ true → point_lt p r ≡ true
+point_lt_le_trans p q r a b = grind (arith, nat_tests)
+
+pub point_le_lt_trans : (p q r : Point) → point_le p q ≡ true → point_lt q r ≡ true → point_lt p r ≡ true
+point_le_lt_trans p q r a b = grind (arith, nat_tests)
+
+pub point_lt_not_le : (p q : Point) → point_lt p q ≡ true → point_le q p ≡ false
+point_lt_not_le p q h = grind (arith, nat_tests)
+
 pub point_le-false : (p q : Point) → point_le p q ≡ false → point_lt q p ≡ true
 point_le-false p q h = grind (arith, nat_tests)
 

@@ -1,3 +1,5 @@
 pub mod Point
 pub mod Text
 pub mod Place
+pub mod Marks
+pub mod MarkList

@@ -6,6 +6,7 @@
 
 mod distance;
 pub mod laws;
+mod mark;
 mod memory;
 mod point;
 mod range;
@@ -14,6 +15,7 @@ mod tests;
 mod units;
 
 pub use distance::{extent_of, traversal, traverse};
+pub use mark::{HitCounts, Mark, MarkOrder, Splice};
 pub use memory::NoMemory;
 pub use point::{MAX_COORD, Point};
 pub use range::Range;

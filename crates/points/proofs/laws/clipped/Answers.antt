@@ -1,4 +1,4 @@
-use Rattle.points.proofs.ClipLemmas.{IsClippedAt, clipped_at}
+use Rattle.points.proofs.ClipLemmas.{clipped_at}
 use Rattle.points.proofs.laws.clipped.Goals as goal
 
 pub returns-clause-within : goal.returns-clause-within

@@ -1,5 +1,5 @@
-use Rattle.std.proofs.Common.{ℕ, ◌<◌, get_or, arith}
-use Rattle.points.proofs.MendingLemmas.{IsMended, mended_is, well_formed-mended, mended-well_formed, utf16_of-text_of}
+use Rattle.std.proofs.Common.{arith}
+use Rattle.points.proofs.MendingLemmas.{mended_is, well_formed-mended, mended-well_formed, utf16_of-text_of}
 use Rattle.points.proofs.laws.mending.Goals as goal
 
 pub returns-clause-offsets : goal.returns-clause-offsets

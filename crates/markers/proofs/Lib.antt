@@ -1,0 +1,6 @@
+pub mod HitLemmas
+pub mod EndLemmas
+pub mod MoveLemmas
+pub mod SearchLemmas
+pub mod IndexLemmas
+pub mod TextLemmas

@@ -1,0 +1,17 @@
+use Rattle.std.proofs.Common.{◌∙◌, ap, sym, subst, List, set}
+use Rattle.points.specs.declared.mark.Mark.{Mark}
+use Rattle.markers.specs.Index.{IsIndex}
+use Rattle.markers.specs.Search.{StandsAt}
+use Rattle.markers.proofs.SearchLemmas.{at_set}
+use Rattle.markers.proofs.IndexLemmas.{index-set}
+use Rattle.markers.proofs.edits.set_exclusive.Goals as goal
+
+pub returns-clause-ok : goal.returns-clause-ok
+returns-clause-ok c = ap (λ (m : Mark). set c.args.marks.now.items c.in-Ok.at (record m { exclusive = c.args.exclusive })) c.index-mark.ensures
+    ∙ at_set c.args.id c.args.exclusive c.args.marks.now.items c.in-Ok.at c.index-mark.result.now c.requires.index.marks
+    (subst (λ (l : List Mark). StandsAt c.args.id l c.in-Ok.at) c.as_slice.ensures.value c.in-Ok.ensures.found)
+
+pub returns-clause-index : goal.returns-clause-index
+returns-clause-index c = subst (λ (m : Mark). IsIndex (set c.args.marks.now.items c.in-Ok.at (record m { exclusive = c.args.exclusive }))) (sym c.index-mark.ensures)
+    (index-set c.args.id c.args.exclusive c.args.marks.now.items c.in-Ok.at c.index-mark.result.now c.requires.index
+    (subst (λ (l : List Mark). StandsAt c.args.id l c.in-Ok.at) c.as_slice.ensures.value c.in-Ok.ensures.found))
