@@ -1,20 +1,18 @@
 -- What insertion, removal and search leave, from what their calls say.
-use Rattle.std.proofs.Common.{◌≡◌, ◌≢◌, ℕ, zero, suc, ◌+◌, ◌-◌, ◌≤◌, ◌<◌, ◌^◌, Bool, List, [], ◌∷◌, ◌++◌, length, take, drop, Some, None, Option, slice_get, refl, sym, ap, ◌∙◌, subst, arith, length-append, append_assoc, append-nil}
+use Rattle.std.proofs.Common.{◌≡◌, ◌≢◌, ℕ, zero, suc, ◌+◌, ◌≤◌, ◌<◌, Bool, List, [], ◌∷◌, ◌++◌, length, take, drop, Some, None, Option, slice_get, refl, sym, ap, ◌∙◌, subst, arith, length-append, append_assoc}
 use Rattle.std.proofs.lemmas.List.{take_at, drop_at, take_all, drop_all}
 use Rattle.std.proofs.lemmas.Option.{same_Some, none-some}
-use Rattle.splay.specs.Items.{PassesUpTo}
 use Rattle.splay.specs.Sums.{count_in}
 use Rattle.splay.specs.Tree.{NIL, Tree, Leaf, Fork, Top, flat, root_of}
 use Rattle.splay.specs.Nodes.{tally_at, Zipped, first_of}
 use Rattle.splay.specs.Places.{IsNode, IsNodeAt, StandsAt, RisesToTop, IsFound}
 use Rattle.splay.specs.Joins.{IsBesideSingle, IsBeforeSingle, CrownsBehind, CrownsBefore, TakesOut, IsPair, Glues}
-use Rattle.splay.specs.Changes.{Inserts, HasItem, TakenAt, Removes, Looks}
+use Rattle.splay.specs.Changes.{Inserts, HasItem, Removes, Looks}
 use Rattle.splay.proofs.Climb.{stands_node}
 use Rattle.splay.proofs.JoinLemmas.{AtTop, stands_top}
 use Rattle.splay.proofs.ItemLemmas.{count_in-tally}
 use Rattle.splay.proofs.TreeLemmas.{tally_at-root}
 use Rattle.splay.specs.declared.join.Taken.{Taken}
-use Rattle.splay.specs.declared.change.Removed.{Removed}
 use Rattle.splay.specs.declared.store.Node.{Node}
 
 pub slice_get-middle : {X : Type 0} (xs : List X) (y : X) (ys : List X) (n : ℕ) → length xs ≡ n → slice_get (xs ++ y ∷ ys) n ≡ Some y

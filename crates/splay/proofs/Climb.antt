@@ -1,7 +1,7 @@
 -- How lifting a node or its parent changes where the node stands.
-use Rattle.std.proofs.Common.{◌≡◌, ◌≢◌, ℕ, zero, suc, ◌+◌, ◌≤◌, ◌<◌, ◌^◌, List, [], ◌∷◌, ◌++◌, length, Some, None, Option, option_map, slice_get, refl, sym, ap, ◌∙◌, subst, arith, length-append, append_assoc, append-nil}
-use Rattle.splay.specs.Tree.{NIL, Tree, Way, Leaf, Fork, Top, LeftOf, RightOf, flat, root_of, before, after, above, depth}
-use Rattle.splay.specs.Nodes.{node, link_at, Zipped}
+use Rattle.std.proofs.Common.{◌≡◌, ℕ, zero, suc, ◌+◌, ◌≤◌, ◌<◌, List, [], ◌∷◌, ◌++◌, length, Some, refl, sym, ap, ◌∙◌, subst, arith, length-append, append_assoc}
+use Rattle.splay.specs.Tree.{Tree, Way, Fork, Top, LeftOf, RightOf, flat, before, after, above, depth}
+use Rattle.splay.specs.Nodes.{link_at, Zipped}
 use Rattle.splay.specs.Places.{IsNode, Stands, LiftsLeft, LiftsRight, Rises, RisesToTop, IsTop}
 use Rattle.splay.proofs.LiftCalls.{link_read, none_read}
 use Rattle.splay.proofs.Zip.{up_left, up_right, down_left, down_right}
@@ -189,19 +189,7 @@ module _ {M V : Type 0} (unit : M) (add : M → M → M) (weight : M → ℕ) wh
       let k = one_above nodes (Fork y n u c t) w aside spare high (up_right unit add weight nodes y n u t c w aside spare z) (subst (λ (k : Link M). link_at nodes k.parent ≡ Some high) (sym e) eh) in
       omega arith
 
-  none_above : (nodes : List (Node M V)) (t : Tree M V) (w : Way M V) (aside : Tree M V) (spare : List ℕ) → Zipped unit add weight nodes t w aside spare → link_at nodes (above w) ≡ None → depth w ≡ 0
-  none_above nodes t Top aside spare z e = refl
-  none_above nodes t (LeftOf y n u c w) aside spare z e = let s = ap (λ o. option_map (λ k. k.link) o) z.way.0 in cc
-  none_above nodes t (RightOf y n u c w) aside spare z e = let s = ap (λ o. option_map (λ k. k.link) o) z.way.0 in cc
-
   -- the cases of a climb
-  pub top_unread : (nodes : List (Node M V)) (x : ℕ) → link_at nodes x ≡ None → IsTop unit add weight nodes x
-  top_unread nodes x e front m v back aside spare n s = let r = ap (λ o. option_map (λ k. k.link) o) s.zipped.here.0 in cc
-
-  pub top_read : (nodes : List (Node M V)) (x : ℕ) (low : Link M) → link_at nodes x ≡ Some low → link_at nodes low.parent ≡ None → IsTop unit add weight nodes x
-  top_read nodes x low el e front m v back aside spare n s =
-      sym s.above_is ∙ none_above nodes (Fork x m v s.left s.right) s.way aside spare s.zipped (rw (way_read nodes x low m v s.left s.right s.way aside spare s.zipped el) e)
-
   pub rises_once : (old new : List (Node M V)) (x : ℕ) (low high : Link M) → link_at old x ≡ Some low → link_at old low.parent ≡ Some high → LiftsLeft unit add weight old new x → LiftsRight unit add weight old new x → Rises unit add weight old new x
   rises_once old new x low high el eh ll lr front m v back aside spare zero s =
       absurd (let k = one_above old (Fork x m v s.left s.right) s.way aside spare high s.zipped (rw (way_read old x low m v s.left s.right s.way aside spare s.zipped el) eh) in omega (arith, s.above_is))

@@ -1,8 +1,8 @@
 -- Sums, weights and lengths of lists that are joined.
-use Rattle.std.proofs.Common.{◌≡◌, ℕ, zero, suc, ◌+◌, ◌≤◌, ◌<◌, List, [], ◌∷◌, ◌++◌, length, Some, None, Option, refl, sym, ap, ◌∙◌, subst, arith, append_assoc, length-append, append-nil}
+use Rattle.std.proofs.Common.{◌≡◌, ℕ, ◌+◌, ◌≤◌, List, [], ◌∷◌, ◌++◌, length, refl, sym, ap, ◌∙◌, arith, length-append}
 use Rattle.splay.specs.Items.{load, total}
 use Rattle.splay.specs.Nodes.{tally_of, tally}
-use Rattle.splay.specs.Sums.{sum_behind, all_behind, count_in, weight_in, weight_of_part, tally_behind, tally_between}
+use Rattle.splay.specs.Sums.{count_in, weight_of_part, tally_between}
 use Rattle.splay.specs.declared.store.Tally.{Tally}
 
 -- two tallies with the same parts are the same

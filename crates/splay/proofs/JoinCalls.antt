@@ -1,17 +1,16 @@
 -- What the calls that put trees together read and write, tied to the trees.
-use Rattle.std.proofs.Common.{◌≡◌, ◌≢◌, ℕ, zero, suc, ◌+◌, ◌-◌, ◌≤◌, ◌<◌, ◌^◌, List, [], ◌∷◌, ◌++◌, length, set, Some, None, Option, option_map, option_and_then, slice_get, refl, sym, ap, ◌∙◌, subst, arith, length-append, append_assoc, append-nil}
-use Rattle.std.proofs.lemmas.Option.{slice_get_within, slice_get_past, same_Some, none-some}
-use Rattle.splay.specs.Items.{load}
+use Rattle.std.proofs.Common.{◌≡◌, ◌≢◌, ℕ, zero, suc, ◌+◌, ◌-◌, ◌≤◌, List, [], ◌∷◌, ◌++◌, length, set, Some, None, Option, option_map, option_and_then, slice_get, refl, sym, ap, ◌∙◌, subst, arith, length-append, append_assoc}
+use Rattle.std.proofs.lemmas.Option.{same_Some, none-some}
 use Rattle.splay.specs.Sums.{tally_between, count_in}
-use Rattle.splay.specs.Tree.{NIL, Tree, Way, Leaf, Fork, Top, flat, root_of}
-use Rattle.splay.specs.Nodes.{with_node, linked, moved_to, emptied, node, tally, tally_of, tally_at, link_at, Zipped, first_of}
-use Rattle.splay.specs.Places.{IsNode, IsNodeAt, StandsAt, RisesToTop}
+use Rattle.splay.specs.Tree.{NIL, Tree, Leaf, Fork, Top, flat, root_of}
+use Rattle.splay.specs.Nodes.{with_node, linked, moved_to, emptied, node, tally_of, tally_at, link_at, Zipped}
+use Rattle.splay.specs.Places.{IsNode, IsNodeAt, RisesToTop}
 use Rattle.splay.proofs.Climb.{stands_node}
-use Rattle.splay.specs.Joins.{IsBesideSingle, IsBeforeSingle, CanHang, IsPair, CrownsBehind, CrownsBefore, Hangs, Glues, TakesOut, Occupies, IsRoomy}
+use Rattle.splay.specs.Joins.{IsBesideSingle, IsBeforeSingle, CanHang, IsPair, CrownsBehind, CrownsBefore, Hangs, Glues, TakesOut, Occupies}
 use Rattle.splay.proofs.ItemLemmas.{load-append, tally_between-tally, count_in-tally}
 use Rattle.splay.proofs.TreeLemmas.{tally_at-root}
 use Rattle.splay.proofs.LiftCalls.{link_read, none_read, Fits, fits_parts}
-use Rattle.splay.proofs.JoinLemmas.{hung, crowned_behind, crowned_before, taken_out, taken_value, filled, pushed, AtTop, stands_top, leaf_from_flat, beside_first}
+use Rattle.splay.proofs.JoinLemmas.{hung, crowned_behind, crowned_before, taken_out, taken_value, filled, pushed, stands_top, leaf_from_flat}
 use Rattle.splay.specs.declared.join.Taken.{Taken}
 use Rattle.splay.specs.declared.store.Tally.{Tally}
 use Rattle.splay.specs.declared.store.Link.{Link}
@@ -192,11 +191,6 @@ module _ {M V : Type 0} (unit : M) (add : M → M → M) (weight : M → ℕ) (a
   -- how many items the tree with this root has
   pub root_count : (nodes : List (Node M V)) (left count : ℕ) (a : Tree M V) (b : Tree M V) (spare : List ℕ) → Zipped unit add weight nodes a Top b spare → root_of a ≡ left → count ≡ count_in (tally_at nodes left) → count ≡ length (flat a)
   root_count nodes left count a b spare z e h = h ∙ ap (λ r. count_in (tally_at nodes r)) (sym e) ∙ ap count_in (tally_at-root unit add nodes NIL a (omega (arith, z.small)) z.here) ∙ count_in-tally unit add (flat a)
-
-  pub glues_empty : (nodes : List (Node M V)) (left right count : ℕ) → count ≡ count_in (tally_at nodes left) → count ≡ 0 → Glues unit add weight nodes nodes left right right
-  glues_empty nodes left right count h none a b spare z el er =
-      let e : a ≡ Leaf = leaf_from_flat unit add weight a (sym (root_count nodes left count a b spare z el h) ∙ none) in
-      (b, beside_first unit add weight nodes b spare (subst (λ t. Zipped unit add weight nodes t Top b spare) e z), er, ap (λ t. flat t ++ flat b) (sym e))
 
   -- the last node of the first tree comes to its top, with nothing behind it
   record LastUp (new : List (Node M V)) (y : ℕ) (a b : Tree M V) (spare : List ℕ) : Type 0 where

@@ -1,16 +1,13 @@
 -- Trees put together and taken apart at their roots: the nodes that are written, and all others.
-use Rattle.std.proofs.Common.{◌≡◌, ◌≢◌, ℕ, zero, suc, ◌+◌, ◌≤◌, ◌<◌, ◌^◌, List, [], ◌∷◌, ◌++◌, length, set, Some, None, Option, option_map, slice_get, refl, sym, ap, ◌∙◌, subst, arith, ◌⊎◌, inl, inr, length-append, length-set, append_assoc, append-nil}
-use Rattle.std.proofs.lemmas.Option.{slice_get_within, slice_get_past}
-use Rattle.std.proofs.lemmas.List.{nil_from_length}
+use Rattle.std.proofs.Common.{◌≡◌, ◌≢◌, ℕ, ◌+◌, ◌≤◌, ◌<◌, ◌^◌, List, [], ◌∷◌, ◌++◌, length, set, Some, slice_get, refl, sym, ◌∙◌, arith, inl, inr, length-append, length-set, append-nil}
+use Rattle.std.proofs.lemmas.Option.{slice_get_within}
 use Rattle.splay.specs.Items.{load}
-use Rattle.splay.specs.Tree.{NIL, Tree, Way, Leaf, Fork, Top, LeftOf, RightOf, hit, times, flat, root_of, uses, before, after, above, uses_way, depth}
-use Rattle.splay.specs.Nodes.{with_node, linked, moved_to, emptied, node, tally_of, Represents, RepresentsWay, AreSpare, Zipped, first_of}
+use Rattle.splay.specs.Tree.{NIL, Tree, Way, Leaf, Fork, Top, LeftOf, RightOf, hit, times, flat, root_of, uses, before, after, depth}
+use Rattle.splay.specs.Nodes.{with_node, linked, moved_to, emptied, node, tally_of, Represents, Zipped, first_of}
 use Rattle.splay.specs.Places.{Stands}
 use Rattle.splay.proofs.NodeLemmas.{with_node-same, with_node-other, length-with_node, slice_get-set_same, slice_get-set_other, slice_get-push, slice_get-pushed}
 use Rattle.splay.proofs.ItemLemmas.{load-append}
 use Rattle.splay.proofs.TreeLemmas.{hit-same, apart_from_hit, hit_from_apart, hit-le, none_or_some, Represents-same, AreSpare-same, uses-within, at_root-other, Represents-moved}
-use Rattle.splay.specs.declared.store.Tally.{Tally}
-use Rattle.splay.specs.declared.store.Link.{Link}
 use Rattle.splay.specs.declared.store.Node.{Node}
 
 module _ {M V : Type 0} (unit : M) (add : M → M → M) (weight : M → ℕ) where

@@ -1,13 +1,11 @@
 -- A rotation keeps the tree: the nodes that it writes, and all others.
-use Rattle.std.proofs.Common.{◌≡◌, ◌≢◌, ℕ, zero, suc, ◌+◌, ◌≤◌, ◌<◌, ◌^◌, List, [], ◌∷◌, ◌++◌, length, Some, None, slice_get, refl, sym, ap, ◌∙◌, subst, arith, length-append, append_assoc}
+use Rattle.std.proofs.Common.{◌≡◌, ◌≢◌, ℕ, ◌+◌, ◌≤◌, ◌<◌, List, [], ◌∷◌, ◌++◌, length, Some, slice_get, sym, ◌∙◌, subst, arith, length-append, append_assoc}
 use Rattle.std.proofs.lemmas.Option.{slice_get_within}
-use Rattle.splay.specs.Items.{load}
-use Rattle.splay.specs.Tree.{NIL, Tree, Way, Leaf, Fork, Top, LeftOf, RightOf, hit, times, flat, root_of, uses, before, after, above, uses_way}
-use Rattle.splay.specs.Nodes.{with_node, linked, moved_to, with_child, node, tally_of, Represents, RepresentsWay, AreSpare, Zipped}
+use Rattle.splay.specs.Tree.{NIL, Tree, Way, Fork, LeftOf, RightOf, hit, times, flat, root_of, uses, before, after, above, uses_way}
+use Rattle.splay.specs.Nodes.{with_node, linked, moved_to, with_child, tally_of, Represents, RepresentsWay, Zipped}
 use Rattle.splay.proofs.NodeLemmas.{with_node-same, with_node-other, length-with_node}
 use Rattle.splay.proofs.ItemLemmas.{load-append}
-use Rattle.splay.proofs.TreeLemmas.{hit-same, apart_from_hit, Represents-same, RepresentsWay-same, AreSpare-same, uses-within, at_root-other, above-other, Represents-moved, RepresentsWay-child}
-use Rattle.splay.specs.declared.store.Tally.{Tally}
+use Rattle.splay.proofs.TreeLemmas.{hit-same, apart_from_hit, Represents-same, RepresentsWay-same, AreSpare-same, at_root-other, above-other, Represents-moved, RepresentsWay-child}
 use Rattle.splay.specs.declared.store.Link.{Link}
 use Rattle.splay.specs.declared.store.Node.{Node}
 

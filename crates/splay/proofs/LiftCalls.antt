@@ -1,10 +1,10 @@
 -- What the rotations read and write, tied to the trees.
-use Rattle.std.proofs.Common.{◌≡◌, ◌≢◌, ℕ, zero, suc, ◌+◌, ◌≤◌, ◌<◌, ◌^◌, List, [], ◌∷◌, ◌++◌, length, Some, None, Option, slice_get, option_map, refl, sym, ap, ◌∙◌, subst, arith, length-append, append_assoc}
+use Rattle.std.proofs.Common.{◌≡◌, ◌≢◌, ℕ, ◌+◌, ◌≤◌, ◌<◌, ◌^◌, List, [], ◌∷◌, ◌++◌, length, Some, None, Option, slice_get, option_map, sym, ap, ◌∙◌, subst, arith, length-append, append_assoc}
 use Rattle.std.proofs.lemmas.Option.{slice_get_within, slice_get_past, same_Some}
 use Rattle.splay.specs.Items.{load}
 use Rattle.splay.specs.Sums.{count_in, weight_of_part, tally_between}
-use Rattle.splay.specs.Tree.{NIL, Tree, Way, Leaf, Fork, Top, LeftOf, RightOf, hit, times, flat, root_of, uses, before, after, above, uses_way}
-use Rattle.splay.specs.Nodes.{with_node, linked, moved_to, with_child, node, tally_of, tally, tally_at, link_at, Represents, RepresentsWay, AreSpare, Zipped}
+use Rattle.splay.specs.Tree.{NIL, Tree, Way, Fork, Top, LeftOf, RightOf, flat, root_of, before, after, above}
+use Rattle.splay.specs.Nodes.{with_node, linked, moved_to, with_child, node, tally_of, tally, tally_at, link_at, Zipped}
 use Rattle.splay.specs.Places.{IsNode, LiftsLeft, LiftsRight}
 use Rattle.splay.proofs.ItemLemmas.{load-append, tally_between-tally, weight_of_part-tally, count_in-tally}
 use Rattle.splay.proofs.TreeLemmas.{hit-same, tally_at-root, root-apart}
@@ -154,13 +154,7 @@ module _ {M V : Type 0} (unit : M) (add : M → M → M) (weight : M → ℕ) (a
   lifts_right_by nodes s₁ s₂ s₃ new x low high moved beside below el eh em es eb e₁ e₂ e₃ e₄ =
       rw (e₄, e₃, e₂, e₁, eb, em, es) (right_writes-lifts nodes x low high el eh)
 
-  -- no node is lifted as a left child where the node above has another one, and the other way round
-  pub not_left : (nodes new : List (Node M V)) (x : ℕ) (low high : Link M) → link_at nodes x ≡ Some low → link_at nodes low.parent ≡ Some high → high.left ≢ x → LiftsLeft unit add weight nodes new x
-  not_left nodes new x low high el eh other y m n v u a b c w aside spare z =
-      let e = link_read nodes x _ low z.here.0 el in
-      let f = link_read nodes y _ high z.way.0 (subst (λ (k : Link M). link_at nodes k.parent ≡ Some high) (sym e) eh) in
-      absurd (other (sym (ap (λ (k : Link M). k.left) f)))
-
+  -- a left child isn't lifted as a right one
   pub not_right : (nodes new : List (Node M V)) (x : ℕ) (low high : Link M) → link_at nodes x ≡ Some low → link_at nodes low.parent ≡ Some high → high.left ≡ x → LiftsRight unit add weight nodes new x
   not_right nodes new x low high el eh same y m n v u a b c w aside spare z =
       let few : length nodes ≤ NIL = omega (arith, z.small) in
@@ -168,16 +162,3 @@ module _ {M V : Type 0} (unit : M) (add : M → M → M) (weight : M → ℕ) (a
       let f = link_read nodes y _ high z.way.0 (subst (λ (k : Link M). link_at nodes k.parent ≡ Some high) (sym e) eh) in
       let at = z.once x in let one = hit-same x in
       absurd (root-apart unit add nodes c x few (slice_get_within nodes x _ z.here.0) (omega arith) (ap (λ (k : Link M). k.left) f ∙ same))
-
-  -- a node with none above it isn't lifted
-  pub not_lifted_left : (nodes new : List (Node M V)) (x : ℕ) (low : Link M) → link_at nodes x ≡ Some low → link_at nodes low.parent ≡ None → LiftsLeft unit add weight nodes new x
-  not_lifted_left nodes new x low el none y m n v u a b c w aside spare z =
-      let e = link_read nodes x _ low z.here.0 el in
-      let f : link_at nodes y ≡ None = subst (λ (k : Link M). link_at nodes k.parent ≡ None) (sym e) none in
-      let s = ap (λ o. option_map (λ z. z.link) o) z.way.0 in cc
-
-  pub not_lifted_right : (nodes new : List (Node M V)) (x : ℕ) (low : Link M) → link_at nodes x ≡ Some low → link_at nodes low.parent ≡ None → LiftsRight unit add weight nodes new x
-  not_lifted_right nodes new x low el none y m n v u a b c w aside spare z =
-      let e = link_read nodes x _ low z.here.0 el in
-      let f : link_at nodes y ≡ None = subst (λ (k : Link M). link_at nodes k.parent ≡ None) (sym e) none in
-      let s = ap (λ o. option_map (λ z. z.link) o) z.way.0 in cc

@@ -1,13 +1,13 @@
 -- The items that a contract sees are those of the tree.
-use Rattle.std.proofs.Common.{◌≡◌, ◌≢◌, ℕ, zero, suc, ◌+◌, ◌-◌, ◌≤◌, ◌<◌, ◌^◌, Bool, List, [], ◌∷◌, ◌++◌, length, take, drop, Some, None, Option, option_map, option_and_then, slice_get, refl, sym, ap, ◌∙◌, subst, arith, length-append}
+use Rattle.std.proofs.Common.{◌≡◌, ℕ, zero, suc, ◌+◌, ◌-◌, ◌≤◌, ◌<◌, ◌^◌, Bool, List, [], ◌∷◌, ◌++◌, length, take, drop, Some, None, Option, option_map, option_and_then, slice_get, refl, sym, ap, ◌∙◌, subst, arith, length-append}
 use Rattle.std.proofs.lemmas.Option.{slice_get_past, slice_get_within}
-use Rattle.splay.specs.Items.{Items, load, total, PassesUpTo}
+use Rattle.splay.specs.Items.{load, total, PassesUpTo}
 use Rattle.splay.specs.Tree.{NIL, Tree, Leaf, Fork, Top, flat, root_of}
-use Rattle.splay.specs.Nodes.{node, item_at, tally_at, sum_of, Represents, Zipped, first_of}
+use Rattle.splay.specs.Nodes.{item_at, tally_at, sum_of, Represents, Zipped, first_of}
 use Rattle.splay.specs.Sums.{count_in}
 use Rattle.splay.specs.Places.{IsNodeAt, IsSumBefore, IsTree}
-use Rattle.splay.specs.Joins.{Occupies, IsRoomy, IsBesideSingle}
-use Rattle.splay.specs.Changes.{Inserts, HasItem, TakenAt, Removes, Looks}
+use Rattle.splay.specs.Joins.{Occupies, IsBesideSingle}
+use Rattle.splay.specs.Changes.{Inserts, HasItem, Removes, Looks}
 use Rattle.splay.specs.Reads.{HasCount, HasItemAt, HasSumBefore}
 use Rattle.splay.specs.Splay.{tree_at, tree_of, items_of, IsSound}
 use Rattle.splay.proofs.ItemLemmas.{count_in-tally}
@@ -44,12 +44,6 @@ module _ {M V : Type 0} (unit : M) (add : M → M → M) (weight : M → ℕ) wh
     free_is = refl;
     spare_is = refl;
   }
-
-  pub sound_tree : (nodes : List (Node M V)) (root free spare : ℕ) → IsSound unit add weight nodes root free spare → IsTree unit add weight nodes root
-  sound_tree nodes root free spare s = record { tree = s.tree; aside = Leaf; spare = s.spares; zipped = s.zipped; root_is = s.root_is }
-
-  pub sound_few : (nodes : List (Node M V)) (root free spare : ℕ) → IsSound unit add weight nodes root free spare → length (items_of nodes root) ≤ 16777216
-  sound_few nodes root free spare s = rw (items_of-sound nodes root free spare s) (omega (arith, s.zipped.counted, s.zipped.small))
 
   pub sound_light : (nodes : List (Node M V)) (root free spare : ℕ) → IsSound unit add weight nodes root free spare → load weight (items_of nodes root) ≤ 2 ^ 62
   sound_light nodes root free spare s = rw (items_of-sound nodes root free spare s) (omega (arith, s.zipped.light))
@@ -107,9 +101,6 @@ module _ {M V : Type 0} (unit : M) (add : M → M → M) (weight : M → ℕ) wh
         items_are = items_of-zipped new r.removed.root r.tree (r.removed.node ∷ s.spares) r.zipped r.root_is ∙ r.items_are ∙ ap (λ xs. take at xs ++ drop (at + 1) xs) (sym e);
         item_is = ap (λ xs. slice_get xs at) e ∙ r.item_is;
       }
-
-  pub sound_roomy : (nodes : List (Node M V)) (root free spare : ℕ) (m : M) → IsSound unit add weight nodes root free spare → IsRoomy unit add weight nodes free m
-  sound_roomy nodes root free spare m s = record { tree = s.tree; spare = s.spares; zipped = s.zipped; free_is = s.free_is }
 
   -- an insertion
   pub single_beside : (old mid : List (Node M V)) (root free spare x next : ℕ) (m : M) (v : V) → IsSound unit add weight old root free spare → length (items_of old root) < 16777216 → load weight (items_of old root) + weight m ≤ 2 ^ 62 → Occupies unit add weight old mid free m v x next → IsBesideSingle unit add weight mid x root

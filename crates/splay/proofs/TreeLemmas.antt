@@ -1,11 +1,10 @@
 -- Trees, ways and spare nodes where the nodes that they lie in stay as they are.
-use Rattle.std.proofs.Common.{◌≡◌, ◌≢◌, ℕ, zero, suc, ◌+◌, ◌≤◌, ◌<◌, List, [], ◌∷◌, ◌++◌, length, Some, None, Option, option_map, slice_get, cond, eqb, true, false, refl, sym, ap, ◌∙◌, subst, arith, length-append, ◌⊎◌, inl, inr}
+use Rattle.std.proofs.Common.{◌≡◌, ◌≢◌, ℕ, zero, suc, ◌+◌, ◌≤◌, ◌<◌, List, [], ◌∷◌, ◌++◌, length, Some, slice_get, eqb, true, false, refl, sym, ap, ◌∙◌, subst, arith, ◌⊎◌, inl, inr}
 use Rattle.std.proofs.lemmas.Bool.Decides.{eqb_tells}
 use Rattle.std.proofs.lemmas.Option.{slice_get_within, slice_get_past}
-use Rattle.splay.specs.Tree.{NIL, Tree, Way, Leaf, Fork, Top, LeftOf, RightOf, hit, times, flat, root_of, uses, before, after, above, uses_way, depth}
-use Rattle.splay.specs.Nodes.{with_node, moved_to, with_child, node, tally, tally_of, tally_at, Represents, RepresentsWay, AreSpare, first_of}
-use Rattle.splay.proofs.NodeLemmas.{with_node-same, with_node-other, with_node-past, length-with_node}
-use Rattle.splay.specs.declared.store.Tally.{Tally}
+use Rattle.splay.specs.Tree.{NIL, Tree, Way, Leaf, Fork, Top, LeftOf, RightOf, hit, times, flat, root_of, uses, above, uses_way}
+use Rattle.splay.specs.Nodes.{with_node, moved_to, with_child, tally, tally_of, tally_at, Represents, RepresentsWay, AreSpare}
+use Rattle.splay.proofs.NodeLemmas.{with_node-same, with_node-other, with_node-past}
 use Rattle.splay.specs.declared.store.Node.{Node}
 
 eqb-refl : (i : ℕ) → eqb i i ≡ true

@@ -1,16 +1,13 @@
 -- Ways down a tree, one node at a time.
-use Rattle.std.proofs.Common.{◌≡◌, ◌≢◌, ℕ, zero, suc, ◌+◌, ◌-◌, ◌≤◌, ◌<◌, ◌^◌, Bool, true, false, List, [], ◌∷◌, ◌++◌, length, take, drop, Some, None, Option, option_map, slice_get, refl, sym, ap, ◌∙◌, subst, arith, ◌⊎◌, inl, inr, length-append, append_assoc, append-nil}
-use Rattle.std.proofs.lemmas.List.{take_at, take-append-drop, take-append-le, length-take-le}
-use Rattle.std.proofs.lemmas.Option.{same_Some}
-use Rattle.splay.specs.Items.{load, total}
-use Rattle.splay.specs.Sums.{sum_behind, all_behind, count_in, weight_in, weight_of_part}
-use Rattle.splay.specs.Tree.{NIL, Tree, Way, Leaf, Fork, Top, LeftOf, RightOf, flat, root_of, before, after, above, depth}
-use Rattle.splay.specs.Nodes.{node, link_at, tally, tally_at, sum_of, Zipped}
-use Rattle.splay.specs.Places.{Stands, StandsAt}
-use Rattle.splay.proofs.ItemLemmas.{load-append, total-append, weight-total, weight_of_part-tally, count_in-tally}
+use Rattle.std.proofs.Common.{◌≡◌, ℕ, ◌+◌, ◌-◌, ◌≤◌, ◌<◌, List, [], ◌∷◌, ◌++◌, length, Some, None, option_map, refl, sym, ap, ◌∙◌, subst, arith, length-append, append_assoc, append-nil}
+use Rattle.splay.specs.Sums.{count_in}
+use Rattle.splay.specs.Tree.{Tree, Way, Leaf, Fork, Top, LeftOf, RightOf, flat, root_of, before, after, depth}
+use Rattle.splay.specs.Nodes.{link_at, tally, tally_at, Zipped}
+use Rattle.splay.specs.Places.{StandsAt}
+use Rattle.splay.proofs.ItemLemmas.{count_in-tally}
 use Rattle.splay.proofs.TreeLemmas.{tally_at-root}
 use Rattle.splay.proofs.LiftCalls.{link_read, none_read}
-use Rattle.splay.proofs.Zip.{up_left, up_right, down_left, down_right}
+use Rattle.splay.proofs.Zip.{down_left, down_right}
 use Rattle.splay.specs.declared.store.Link.{Link}
 use Rattle.splay.specs.declared.store.Node.{Node}
 

@@ -1,14 +1,14 @@
 -- Ways down a tree that add up the sums of what stands before.
-use Rattle.std.proofs.Common.{◌≡◌, ◌≢◌, ℕ, zero, suc, ◌+◌, ◌-◌, ◌≤◌, ◌<◌, ◌^◌, Bool, true, false, List, [], ◌∷◌, ◌++◌, length, take, drop, Some, None, Option, refl, sym, ap, ◌∙◌, subst, arith, ◌⊎◌, inl, inr, length-append, append_assoc, append-nil}
-use Rattle.std.proofs.lemmas.List.{take_at, take-append-drop, take-append-le, length-take-le, nil_from_length}
+use Rattle.std.proofs.Common.{◌≡◌, ◌≢◌, ℕ, suc, ◌+◌, ◌-◌, ◌≤◌, ◌<◌, ◌^◌, Bool, true, false, List, [], ◌∷◌, ◌++◌, length, take, drop, Some, None, Option, refl, sym, ap, ◌∙◌, subst, arith, ◌⊎◌, inl, inr, length-append, append_assoc, append-nil}
+use Rattle.std.proofs.lemmas.List.{take_at, take-append-drop, take-append-le}
 use Rattle.splay.specs.Items.{load, total, PassesUpTo}
 use Rattle.splay.specs.Sums.{sum_behind, all_behind, count_in, weight_in, weight_of_part}
 use Rattle.splay.specs.Tree.{NIL, Tree, Way, Leaf, Fork, Top, LeftOf, RightOf, flat, root_of, before, after, above, depth}
 use Rattle.splay.specs.Nodes.{link_at, tally, tally_at, sum_of, Zipped}
-use Rattle.splay.specs.Places.{Stands, StandsAt, IsTree}
+use Rattle.splay.specs.Places.{StandsAt}
 use Rattle.splay.proofs.ItemLemmas.{load-append, total-append, weight-total, weight_of_part-tally, count_in-tally}
 use Rattle.splay.proofs.Zip.{up_left, up_right}
-use Rattle.splay.proofs.Walk.{On, Seeks, reads, on_left, on_right, ends_unread, ends_deep, no_link, seeks_left, seeks_right}
+use Rattle.splay.proofs.Walk.{On, Seeks, reads, on_left, on_right, ends_unread, ends_deep, no_link}
 use Rattle.splay.specs.declared.store.Tally.{Tally}
 use Rattle.splay.specs.declared.store.Link.{Link}
 use Rattle.splay.specs.declared.store.Node.{Node}

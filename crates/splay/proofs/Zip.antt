@@ -1,8 +1,7 @@
 -- The same tree seen from one node further up or down.
-use Rattle.std.proofs.Common.{◌≡◌, ◌≢◌, ℕ, zero, suc, ◌+◌, ◌≤◌, ◌<◌, ◌^◌, List, [], ◌∷◌, ◌++◌, length, Some, None, slice_get, refl, sym, ap, ◌∙◌, subst, arith, length-append, append_assoc}
-use Rattle.splay.specs.Items.{load}
-use Rattle.splay.specs.Tree.{NIL, Tree, Way, Leaf, Fork, Top, LeftOf, RightOf, hit, times, flat, root_of, uses, before, after, above, uses_way}
-use Rattle.splay.specs.Nodes.{node, Represents, RepresentsWay, AreSpare, Zipped}
+use Rattle.std.proofs.Common.{ℕ, List, [], ◌∷◌, ◌++◌, arith, length-append}
+use Rattle.splay.specs.Tree.{Tree, Way, Fork, LeftOf, RightOf, flat, before, after}
+use Rattle.splay.specs.Nodes.{Zipped}
 use Rattle.splay.proofs.ItemLemmas.{load-append}
 use Rattle.splay.specs.declared.store.Node.{Node}
 

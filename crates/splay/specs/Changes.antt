@@ -1,5 +1,5 @@
 -- What a tree is after an item was put in, taken out or searched.
-use Rattle.std.specs.Prelude.{◌≡◌, ℕ, ◌+◌, ◌≤◌, ◌<◌, Bool, List, [], ◌∷◌, ◌++◌, length, take, drop, slice_get, Option, Some, None}
+use Rattle.std.specs.Prelude.{◌≡◌, ℕ, ◌+◌, ◌≤◌, ◌<◌, Bool, List, ◌∷◌, ◌++◌, length, take, drop, slice_get, Option, Some}
 use Rattle.splay.specs.Items.{PassesUpTo}
 use Rattle.splay.specs.Tree.{Tree, Leaf, Fork, Top, flat, root_of}
 use Rattle.splay.specs.Nodes.{Zipped, first_of}

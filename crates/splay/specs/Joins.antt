@@ -1,14 +1,14 @@
 -- Trees put together and taken apart at their roots.
-use Rattle.std.specs.Prelude.{◌≡◌, ℕ, ◌+◌, ◌-◌, ◌≤◌, ◌<◌, ◌^◌, List, [], ◌∷◌, ◌++◌, length, Option, Some, None}
+use Rattle.std.specs.Prelude.{◌≡◌, ℕ, ◌+◌, ◌-◌, ◌≤◌, ◌<◌, ◌^◌, List, ◌∷◌, ◌++◌, length, Option, Some}
 use Rattle.splay.specs.Items.{load}
-use Rattle.splay.specs.Tree.{NIL, Tree, Way, Leaf, Fork, Top, flat, root_of}
+use Rattle.splay.specs.Tree.{Tree, Leaf, Fork, Top, flat, root_of}
 use Rattle.splay.specs.Nodes.{Zipped, first_of}
 use Rattle.splay.specs.declared.store.Node.{Node}
 use Rattle.splay.specs.declared.join.Taken.{Taken}
 
 module _ {M V : Type 0} (unit : M) (add : M → M → M) (weight : M → ℕ) where
-  -- one tree alone lies in the nodes, and its items are few and light enough for one more of this measure
-  pub record IsRoomy (nodes : List (Node M V)) (free : ℕ) (m : M) : Type 0 where
+  -- one tree alone lies in the nodes, and this is the first spare one of them
+  pub record IsAlone (nodes : List (Node M V)) (free : ℕ) : Type 0 where
     pub tree : Tree M V
     pub spare : List ℕ
     pub zipped : Zipped unit add weight nodes tree Top Leaf spare

@@ -1,7 +1,7 @@
 -- How trees and spare nodes lie in the list of nodes.
-use Rattle.std.specs.Prelude.{◌≡◌, ℕ, zero, suc, ◌+◌, ◌≤◌, ◌<◌, ◌^◌, List, [], ◌∷◌, ◌++◌, length, slice_get, slice_set, Option, Some, None, option_map, option_and_then, cond, eqb}
+use Rattle.std.specs.Prelude.{◌≡◌, ℕ, ◌+◌, ◌≤◌, ◌^◌, List, [], ◌∷◌, ◌++◌, length, slice_get, slice_set, Option, Some, None, option_map, option_and_then, cond, eqb}
 use Rattle.splay.specs.Items.{load, total}
-use Rattle.splay.specs.Tree.{NIL, Tree, Way, Leaf, Fork, Top, LeftOf, RightOf, times, flat, root_of, uses, before, after, above, uses_way, depth}
+use Rattle.splay.specs.Tree.{NIL, Tree, Way, Leaf, Fork, Top, LeftOf, RightOf, times, flat, root_of, uses, before, after, above, uses_way}
 use Rattle.splay.specs.declared.store.Tally.{Tally}
 use Rattle.splay.specs.declared.store.Link.{Link}
 use Rattle.splay.specs.declared.store.Node.{Node}

@@ -1,7 +1,7 @@
 -- Where a node stands in a tree, and what a rotation does to it.
-use Rattle.std.specs.Prelude.{◌≡◌, ◌≢◌, ℕ, ◌+◌, ◌≤◌, ◌<◌, List, [], ◌∷◌, ◌++◌, length, take, Option, Bool, true, false}
+use Rattle.std.specs.Prelude.{◌≡◌, ◌≢◌, ℕ, ◌≤◌, ◌<◌, List, ◌∷◌, ◌++◌, length, take, Option, Bool}
 use Rattle.splay.specs.Items.{PassesUpTo}
-use Rattle.splay.specs.Tree.{NIL, Tree, Way, Leaf, Fork, Top, LeftOf, RightOf, flat, root_of, before, after, depth}
+use Rattle.splay.specs.Tree.{NIL, Tree, Way, Fork, Top, LeftOf, RightOf, flat, root_of, before, after, depth}
 use Rattle.splay.specs.Nodes.{Zipped, sum_of}
 use Rattle.splay.specs.declared.store.Node.{Node}
 

@@ -1,5 +1,5 @@
 -- What is read of a tree that stays as it is.
-use Rattle.std.specs.Prelude.{◌≡◌, ℕ, ◌<◌, ◌≤◌, List, length, take, slice_get, Option}
+use Rattle.std.specs.Prelude.{◌≡◌, ℕ, ◌≤◌, List, length, take, slice_get, Option}
 use Rattle.splay.specs.Items.{total}
 use Rattle.splay.specs.Tree.{Tree, Leaf, Top, flat, root_of}
 use Rattle.splay.specs.Nodes.{Zipped}

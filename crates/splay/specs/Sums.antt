@@ -1,5 +1,5 @@
 -- Sums of two parts of a list and of the item between them, where a part may have no items.
-use Rattle.std.specs.Prelude.{◌≡◌, ℕ, ◌+◌, Option, Some, None}
+use Rattle.std.specs.Prelude.{ℕ, ◌+◌, Option, Some, None}
 use Rattle.splay.specs.declared.store.Tally.{Tally}
 
 module _ {M : Type 0} where

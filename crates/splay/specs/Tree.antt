@@ -1,5 +1,5 @@
 -- Trees of numbered nodes, and the ways from their roots down to a subtree.
-use Rattle.std.specs.Prelude.{◌≡◌, ℕ, zero, suc, ◌+◌, List, [], ◌∷◌, ◌++◌, cond, eqb}
+use Rattle.std.specs.Prelude.{ℕ, suc, ◌+◌, List, [], ◌∷◌, ◌++◌, cond, eqb}
 
 -- the index that no node has
 abbrev pub NIL : ℕ

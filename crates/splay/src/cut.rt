@@ -1,6 +1,6 @@
 //! A tree cut in two, and two made one. Items go from one tree to the other one by one, the fewer of the two
 //! parts: for k of them the cost is that of k removals and k insertions.
-ghost use Rattle.std.specs.Prelude.{◌≡◌, ℕ, ◌+◌, ◌-◌, ◌<◌, ◌≤◌, ◌^◌, List, [], ◌∷◌, ◌++◌, length, true, false, Ok, Err, IfOk, IfErr};
+ghost use Rattle.std.specs.Prelude.{◌≡◌, ℕ, ◌+◌, ◌-◌, ◌<◌, ◌≤◌, ◌^◌, ◌/◌, List, [], ◌∷◌, ◌++◌, length, true, false, Ok, Err, IfOk, IfErr};
 ghost use Rattle.splay.specs.Items.{load};
 
 use crate::measure::Measure;
@@ -125,6 +125,7 @@ fn cut_front<M: Measure, V: Drop, L: Ledger>(
     requires { at ≤ length tree.items }
     ensures joined { IfOk result (λ p. p.0.items ++ p.1.items ≡ tree.items) }
     ensures place { IfOk result (λ p. length p.0.items ≡ at) }
+    ensures spare { IfOk result (λ p. (p.0.spare ≡ 0) × (p.1.spare ≡ tree.spare + at)) }
     ensures err { IfErr result (λ t. t ≡ tree) }
 {
     let mut right = tree;
@@ -148,6 +149,7 @@ fn cut_back<M: Measure, V: Drop, L: Ledger>(
     requires { at ≤ length tree.items }
     ensures joined { IfOk result (λ p. p.0.items ++ p.1.items ≡ tree.items) }
     ensures place { IfOk result (λ p. length p.0.items ≡ at) }
+    ensures spare { IfOk result (λ p. (p.0.spare ≡ tree.spare + (length tree.items - at)) × (p.1.spare ≡ 0)) }
     ensures err { IfErr result (λ t. t ≡ tree) }
 {
     let mut left = tree;
@@ -170,6 +172,7 @@ fn join_left<M: Measure, V: Drop, L: Ledger>(
     requires few { length first.items + length second.items ≤ 2 ^ 24 }
     requires light { load M.weight first.items + load M.weight second.items ≤ 2 ^ 62 }
     ensures ok { IfOk result (λ t. t.items ≡ first.items ++ second.items) }
+    ensures kept { IfOk result (λ t. t.spare ≡ first.spare - length second.items) }
     ensures err { IfErr result (λ p. (p.0.items ≡ first.items) × (p.1.items ≡ second.items)) }
     ensures spare { IfErr result (λ p. (first.spare ≤ p.0.spare) × (second.spare ≤ p.1.spare)) }
 {
@@ -193,6 +196,7 @@ fn join_right<M: Measure, V: Drop, L: Ledger>(
     requires few { length first.items + length second.items ≤ 2 ^ 24 }
     requires light { load M.weight first.items + load M.weight second.items ≤ 2 ^ 62 }
     ensures ok { IfOk result (λ t. t.items ≡ first.items ++ second.items) }
+    ensures kept { IfOk result (λ t. t.spare ≡ second.spare - length first.items) }
     ensures err { IfErr result (λ p. (p.0.items ≡ first.items) × (p.1.items ≡ second.items)) }
     ensures spare { IfErr result (λ p. (first.spare ≤ p.0.spare) × (second.spare ≤ p.1.spare)) }
 {
@@ -219,6 +223,8 @@ impl<M: Measure, V: Drop> Splay<M, V> {
         requires { at ≤ length self.items }
         ensures joined { IfOk result (λ p. p.0.items ++ p.1.items ≡ self.items) }
         ensures place { IfOk result (λ p. length p.0.items ≡ at) }
+        ensures front { at ≤ length self.items / 2 → IfOk result (λ p. (p.0.spare ≡ 0) × (p.1.spare ≡ self.spare + at)) }
+        ensures back { length self.items / 2 < at → IfOk result (λ p. (p.0.spare ≡ self.spare + (length self.items - at)) × (p.1.spare ≡ 0)) }
         ensures err { IfErr result (λ t. t ≡ self) }
     {
         if at <= self.len() / 2 {
@@ -238,6 +244,8 @@ impl<M: Measure, V: Drop> Splay<M, V> {
         requires few { length self.items + length other.items ≤ 2 ^ 24 }
         requires light { load M.weight self.items + load M.weight other.items ≤ 2 ^ 62 }
         ensures ok { IfOk result (λ t. t.items ≡ self.items ++ other.items) }
+        ensures kept_first { length other.items ≤ length self.items → IfOk result (λ t. t.spare ≡ self.spare - length other.items) }
+        ensures kept_second { length self.items < length other.items → IfOk result (λ t. t.spare ≡ other.spare - length self.items) }
         ensures err { IfErr result (λ p. (p.0.items ≡ self.items) × (p.1.items ≡ other.items)) }
         ensures spare { IfErr result (λ p. (self.spare ≤ p.0.spare) × (other.spare ≤ p.1.spare)) }
     {

@@ -3,7 +3,7 @@ ghost use Rattle.std.specs.Prelude.{◌≡◌, ℕ, ◌+◌, ◌<◌, ◌≤◌,
 ghost use Rattle.splay.specs.Tree.{NIL, Tree, Leaf, Fork, Top, flat, root_of};
 ghost use Rattle.splay.specs.Nodes.{Zipped, first_of};
 ghost use Rattle.splay.specs.Items.{load};
-ghost use Rattle.splay.specs.Joins.{IsBesideSingle, IsBeforeSingle, CanHang, IsPair, CrownsBehind, CrownsBefore, Hangs, Glues, TakesOut, Occupies, IsRoomy};
+ghost use Rattle.splay.specs.Joins.{IsBesideSingle, IsBeforeSingle, CanHang, IsPair, CrownsBehind, CrownsBefore, Hangs, Glues, TakesOut, Occupies, IsAlone};
 
 use crate::measure::Measure;
 use crate::parts::joined;
@@ -36,7 +36,7 @@ pub(crate) fn occupy<M: Measure, V: Drop, L: Ledger>(
     value: V,
     steps: &mut Steps<L>,
 ) -> Result<Slot, V>
-    requires { IsRoomy M.unit M.add M.weight store.old free measure }
+    requires { IsAlone M.unit M.add M.weight store.old free }
     ensures ok { IfOk result (λ s. Occupies M.unit M.add M.weight store.old store.new free measure value s.at s.free) }
     ensures err { OnErr result (store.new ≡ store.old) }
     ensures back { IfErr result (λ v. v ≡ value) }

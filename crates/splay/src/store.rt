@@ -48,6 +48,7 @@ impl<M, V> Model for Store<M, V> {
 }
 
 impl<M: Copy, V> Store<M, V> {
+    /// No nodes, over the allocator that later ones come from. It takes no memory itself.
     pub fn new(alloc: Global) -> Self
         ensures { result ≡ [] }
     {
@@ -56,6 +57,7 @@ impl<M: Copy, V> Store<M, V> {
         }
     }
 
+    /// How many nodes there are, spare ones among them.
     pub fn len(&self) -> usize
         ensures { result ≡ length self.now }
     {

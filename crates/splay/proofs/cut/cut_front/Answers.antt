@@ -1,6 +1,6 @@
-use Rattle.std.proofs.Common.{◌≡◌, ◌+◌, ◌-◌, ◌≤◌, arith, length, [], sym, ap, ◌∙◌, subst, refl}
+use Rattle.std.proofs.Common.{arith, ap}
 use Rattle.splay.specs.Items.{load}
-use Rattle.splay.proofs.CutLemmas.{same_load, same_length, undone_front, undone_back, same_view}
+use Rattle.splay.proofs.CutLemmas.{same_load, undone_front, same_view}
 use Rattle.splay.proofs.cut.cut_front.Goals as goal
 
 pub pour_back-requires-clause-light : goal.pour_back-requires-clause-light

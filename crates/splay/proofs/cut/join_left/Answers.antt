@@ -1,6 +1,5 @@
-use Rattle.std.proofs.Common.{◌≡◌, ◌+◌, ◌-◌, ◌≤◌, arith, length, [], sym, ap, ◌∙◌, subst, refl}
-use Rattle.splay.specs.Items.{load}
-use Rattle.splay.proofs.CutLemmas.{same_load, same_length, undone_front, undone_back, same_view}
+use Rattle.std.proofs.Common.{arith}
+use Rattle.splay.proofs.CutLemmas.{same_load, same_length, undone_front}
 use Rattle.splay.proofs.cut.join_left.Goals as goal
 
 pub pour_back-requires-clause-some : goal.pour_back-requires-clause-some

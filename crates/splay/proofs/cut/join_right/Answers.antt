@@ -1,6 +1,5 @@
-use Rattle.std.proofs.Common.{◌≡◌, ◌+◌, ◌-◌, ◌≤◌, arith, length, [], sym, ap, ◌∙◌, subst, refl}
-use Rattle.splay.specs.Items.{load}
-use Rattle.splay.proofs.CutLemmas.{same_load, same_length, undone_front, undone_back, same_view}
+use Rattle.std.proofs.Common.{arith}
+use Rattle.splay.proofs.CutLemmas.{same_load, same_length, undone_back}
 use Rattle.splay.proofs.cut.join_right.Goals as goal
 
 pub pour_front-requires-clause-some : goal.pour_front-requires-clause-some

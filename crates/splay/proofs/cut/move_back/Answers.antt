@@ -1,5 +1,4 @@
-use Rattle.std.proofs.Common.{◌≡◌, ◌+◌, ◌-◌, ◌≤◌, ◌++◌, ◌∷◌, true, arith, length, take, drop, sym, ap, ◌∙◌, subst, refl}
-use Rattle.splay.specs.Items.{load}
+use Rattle.std.proofs.Common.{◌≡◌, ◌-◌, ◌++◌, ◌∷◌, arith, take, drop, ap, ◌∙◌, refl}
 use Rattle.splay.proofs.CutLemmas.{load-without, last_moved, put_back, same_view, at_ok}
 use Rattle.splay.proofs.cut.move_back.Goals as goal
 

@@ -1,5 +1,4 @@
-use Rattle.std.proofs.Common.{◌+◌, ◌≤◌, arith, length}
-use Rattle.splay.specs.Items.{load}
+use Rattle.std.proofs.Common.{arith}
 use Rattle.splay.proofs.CutLemmas.{same_length, same_load}
 use Rattle.splay.proofs.cut.pour_back.Goals as goal
 

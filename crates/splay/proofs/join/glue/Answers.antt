@@ -1,6 +1,5 @@
-use Rattle.std.proofs.Common.{◌≡◌, sym, ap, ◌∙◌}
+use Rattle.std.proofs.Common.{ap, ◌∙◌}
 use Rattle.splay.specs.Sums.{count_in}
-use Rattle.splay.specs.Nodes.{tally_at}
 use Rattle.splay.proofs.JoinCalls.{last_node, last_hangs, glues_by}
 use Rattle.splay.proofs.join.glue.Goals as goal
 

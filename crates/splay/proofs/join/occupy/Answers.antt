@@ -1,4 +1,4 @@
-use Rattle.std.proofs.Common.{sym, ◌∙◌}
+use Rattle.std.proofs.Common.{sym}
 use Rattle.splay.proofs.JoinCalls.{occupies_filled, occupies_pushed}
 use Rattle.splay.proofs.join.occupy.Goals as goal
 

@@ -1,6 +1,6 @@
 use Rattle.std.proofs.Common.{sym, subst}
 use Rattle.splay.specs.Places.{IsNode, LiftsLeft, LiftsRight}
-use Rattle.splay.proofs.Climb.{node_above, node_lifted, node_under_lifted, rises_once, rises_twice, rises_with_parent, top_read}
+use Rattle.splay.proofs.Climb.{node_above, node_lifted, node_under_lifted, rises_once, rises_twice, rises_with_parent}
 use Rattle.splay.proofs.rotate.climb.Goals as goal
 use Rattle.splay.proofs.rotate.climb.Goals.{then-middle-x, else-middle-x}
 

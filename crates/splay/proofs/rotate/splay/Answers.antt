@@ -1,4 +1,4 @@
-use Rattle.std.proofs.Common.{sym, subst, arith, ◌≤◌, length}
+use Rattle.std.proofs.Common.{sym, subst, arith}
 use Rattle.splay.specs.Places.{RisesToTop}
 use Rattle.splay.proofs.Climb.{risen_node, risen_more, risen_top, risen_all}
 use Rattle.splay.proofs.rotate.splay.Goals as goal

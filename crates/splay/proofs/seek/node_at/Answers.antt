@@ -1,8 +1,8 @@
-use Rattle.std.proofs.Common.{◌≡◌, ◌+◌, ◌≤◌, ◌<◌, ◌-◌, sym, ap, ◌∙◌, subst, arith, length}
+use Rattle.std.proofs.Common.{◌≡◌, sym, ap, ◌∙◌, arith}
 use Rattle.splay.specs.Tree.{flat}
 use Rattle.splay.specs.Sums.{count_in}
 use Rattle.splay.specs.Nodes.{tally_at}
-use Rattle.splay.proofs.Walk.{Seeks, seeks_start, seeks_left, seeks_right, seeks_stop, seeks_unread, seeks_deep}
+use Rattle.splay.proofs.Walk.{seeks_start, seeks_left, seeks_right, seeks_stop, seeks_unread, seeks_deep}
 use Rattle.splay.proofs.seek.node_at.Goals as goal
 use Rattle.splay.proofs.seek.node_at.Goals.{then-ahead-left, else-ahead-left+else-ahead-left-2}
 

@@ -1,8 +1,8 @@
-use Rattle.std.proofs.Common.{◌≡◌, ◌+◌, ◌≤◌, ◌<◌, ◌-◌, Some, sym, ap, ◌∙◌, subst, arith, length, refl, Fits, w64}
+use Rattle.std.proofs.Common.{◌≡◌, sym, ap, ◌∙◌, arith}
 use Rattle.splay.specs.Tree.{flat}
 use Rattle.splay.specs.Sums.{count_in, sum_behind, all_behind}
 use Rattle.splay.specs.Nodes.{tally_at}
-use Rattle.splay.proofs.WalkSums.{Searches, search_start, search_light, search_few, search_left, search_right, search_unread, search_deep}
+use Rattle.splay.proofs.WalkSums.{search_start, search_light, search_few, search_left, search_right, search_unread, search_deep}
 use Rattle.splay.proofs.seek.search.Goals as goal
 use Rattle.splay.proofs.seek.search.Goals.{then-passes, else-passes}
 

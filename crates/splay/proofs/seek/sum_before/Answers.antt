@@ -1,8 +1,8 @@
-use Rattle.std.proofs.Common.{◌≡◌, ◌+◌, ◌≤◌, ◌<◌, ◌-◌, Some, sym, ap, ◌∙◌, subst, arith, length, refl}
+use Rattle.std.proofs.Common.{◌≡◌, sym, ap, ◌∙◌, arith}
 use Rattle.splay.specs.Tree.{flat}
-use Rattle.splay.specs.Sums.{count_in, sum_behind, all_behind}
+use Rattle.splay.specs.Sums.{count_in}
 use Rattle.splay.specs.Nodes.{tally_at}
-use Rattle.splay.proofs.WalkSums.{SumSeeks, sum_start, sum_light, sum_left, sum_right, sum_unread, sum_deep}
+use Rattle.splay.proofs.WalkSums.{sum_start, sum_light, sum_left, sum_right, sum_unread, sum_deep}
 use Rattle.splay.proofs.seek.sum_before.Goals as goal
 use Rattle.splay.proofs.seek.sum_before.Goals.{then-ahead-count, else-ahead-count}
 

@@ -1,5 +1,4 @@
-use Rattle.std.proofs.Common.{◌≡◌, ◌+◌, ◌≤◌, arith, length, take}
-use Rattle.splay.specs.Items.{load}
+use Rattle.std.proofs.Common.{◌+◌, arith}
 use Rattle.splay.proofs.CutLemmas.{load-more, load-take, some_at}
 use Rattle.splay.proofs.tests.load_of.Goals as goal
 

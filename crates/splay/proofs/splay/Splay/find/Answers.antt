@@ -1,4 +1,4 @@
-use Rattle.std.proofs.Common.{◌≡◌, ap, sym, ◌∙◌, subst}
+use Rattle.std.proofs.Common.{◌≡◌, ap, ◌∙◌, subst}
 use Rattle.splay.specs.Items.{Items, PassesUpTo}
 use Rattle.splay.specs.Splay.{items_of}
 use Rattle.splay.proofs.SplayLemmas.{looked}

@@ -1,7 +1,7 @@
 use Rattle.std.proofs.Common.{◌≡◌, ◌<◌, ◌≤◌, ◌+◌, ◌^◌, ◌++◌, ◌∷◌, ap, sym, ◌∙◌, subst, take, drop, length}
 use Rattle.splay.specs.Items.{Items, load}
 use Rattle.splay.specs.Splay.{items_of, IsSound}
-use Rattle.splay.proofs.SplayLemmas.{sound_roomy, single_beside, inserted_by, spare_found}
+use Rattle.splay.proofs.SplayLemmas.{single_beside, inserted_by, spare_found}
 use Rattle.splay.proofs.splay.Splay.insert_at.Goals as goal
 
 pub insert-requires : goal.insert-requires

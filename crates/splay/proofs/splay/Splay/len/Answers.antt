@@ -1,7 +1,7 @@
 use Rattle.std.proofs.Common.{◌≡◌, ◌≤◌, ◌^◌, ap, ◌∙◌, subst, length}
 use Rattle.splay.specs.Items.{Items, load}
 use Rattle.splay.specs.Splay.{items_of}
-use Rattle.splay.proofs.SplayLemmas.{sound_count, sound_light, sound_few}
+use Rattle.splay.proofs.SplayLemmas.{sound_count, sound_light}
 use Rattle.splay.proofs.splay.Splay.len.Goals as goal
 
 pub returns-clause-value : goal.returns-clause-value

@@ -1,4 +1,4 @@
-use Rattle.std.proofs.Common.{sym, subst, []}
+use Rattle.std.proofs.Common.{sym, subst}
 use Rattle.splay.specs.Tree.{NIL}
 use Rattle.splay.specs.Splay.{IsSound}
 use Rattle.splay.proofs.SplayLemmas.{sound_empty}

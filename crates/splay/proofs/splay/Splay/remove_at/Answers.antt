@@ -1,4 +1,4 @@
-use Rattle.std.proofs.Common.{◌≡◌, ◌<◌, ◌+◌, ◌++◌, Some, true, ap, sym, ◌∙◌, subst, take, drop, length, slice_get, is_some}
+use Rattle.std.proofs.Common.{◌≡◌, ◌<◌, ◌+◌, ◌++◌, Some, ap, sym, ◌∙◌, subst, take, drop, length, slice_get, is_some}
 use Rattle.std.proofs.lemmas.Option.{same_Some}
 use Rattle.splay.specs.Items.{Items}
 use Rattle.splay.specs.Splay.{items_of, IsSound}

@@ -1,4 +1,4 @@
-use Rattle.splay.proofs.tests.agrees_with_a_plain_list.Given as goal
+use Rattle.splay.proofs.tests.agrees_with_a_plain_list_by_extents.Given as goal
 
 abbrev pub ghosts-agrees : goal.ghosts-agrees
 ghosts-agrees g a = record { name = a.blank.name; parts = a.blank.parts }
