@@ -1,6 +1,6 @@
 -- Lists of changes, change by change: their sizes, copies of them, and the sides exchanged.
-use Rattle.std.proofs.Common.{◌≡◌, ℕ, suc, ◌+◌, ◌<◌, ◌≤◌, List, [], ◌∷◌, ◌++◌, length, take, drop, get_or, map, sum_by, refl, sym, ap, ◌∙◌, subst, arith}
-use Rattle.std.proofs.lemmas.List.{take_more, map_more, get_or_read, map-append, take_all}
+use Rattle.std.proofs.Common.{◌≡◌, ℕ, ◌+◌, ◌<◌, List, [], ◌∷◌, ◌++◌, length, take, get_or, map, sum_by, sym, ap, ◌∙◌, arith}
+use Rattle.std.proofs.lemmas.List.{map_more, map-append}
 use Rattle.std.proofs.lemmas.List.Sums.{sum_by-append}
 use Rattle.patch.specs.Hunk.{Hunk, hunk_of, hunks_of, hunk_size, inverted}
 use Rattle.patch.specs.declared.change.Change.{Change}

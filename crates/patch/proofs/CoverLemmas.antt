@@ -1,58 +1,40 @@
 -- Which changes a replacement covers, found with no text but that of the replaced units.
-use Rattle.std.proofs.Common.{◌≡◌, ℕ, suc, zero, ◌+◌, ◌-◌, ◌<◌, ◌≤◌, ◌⊎◌, List, [], ◌∷◌, ◌++◌, length, take, drop, map, cond, leb, Bool, true, false, Option, Some, None, refl, sym, ap, ◌∙◌, subst, inl, inr, arith, append_assoc, length-append, length-drop, take-append-drop}
-use Rattle.std.proofs.lemmas.List.{append-nil, append_cancel_left, drop_at, take_at, take_all, take-append-le, length-take-le}
+use Rattle.std.proofs.Common.{◌≡◌, ℕ, ◌+◌, ◌<◌, ◌≤◌, List, [], ◌∷◌, ◌++◌, length, take, drop, leb, false, Option, Some, None, refl, sym, ap, ◌∙◌, subst, inl, inr, arith, append_assoc, length-append, length-drop, take-append-drop}
+use Rattle.std.proofs.lemmas.List.{append-nil, append_cancel_left, take_at, take_all, take-append-le}
 use Rattle.std.proofs.lemmas.Bool.{cases_lt, le-leb, lt-leb, cond-true, cond-false}
 use Rattle.points.specs.declared.point.Point.{Point}
 use Rattle.points.specs.Point.{traverse, traversal}
-use Rattle.points.specs.Place.{extent, point_at, offset_of}
+use Rattle.points.specs.Place.{extent, offset_of}
 use Rattle.points.proofs.PointLemmas.{traverse_assoc, traversal-traverse}
 use Rattle.points.proofs.ExtentLemmas.{extent-append}
 use Rattle.points.proofs.OffsetLemmas.{offset_of-at, offset_of-nowhere, point_at_same}
 use Rattle.patch.specs.Hunk.{Hunk}
-use Rattle.patch.proofs.Pieces.{Piece, old_of, new_of, is_none}
+use Rattle.patch.specs.Spliced.{Cover, cover_made, cover_step, cover}
+use Rattle.patch.proofs.Pieces.{Piece, new_of, is_none, AllApart, AllApartBehind, AllSome}
 use Rattle.patch.proofs.PatchPieces.{hunk_between, shown}
-use Rattle.patch.proofs.SplicePieces.{piece, IsCovered, covered_tail, covered_kept, covered_new, covered_more, AllApart, led_on}
+use Rattle.patch.proofs.SplicePieces.{piece, IsCovered, covered_tail, covered_kept, covered_new, covered_more, led_on}
 
--- what replaced units cover: the old units behind them, the new units of the last covered change that stand behind them, and the changes behind
-pub record Cover : Type 0 where
-  pub mid : List ℕ
-  pub post : List ℕ
-  pub rest : List Hunk
-
-abbrev pub cover_made : List ℕ → List ℕ → List Hunk → Cover
-cover_made mid post rest = record { mid = mid; post = post; rest = rest }
-
--- one change more, which starts k units behind the start of the units d, or isn't reached
-abbrev pub cover_step : Option ℕ → List ℕ → Hunk → List Hunk → (ℕ → Cover) → Cover
-cover_step None d h hs more = cover_made d [] (h ∷ hs)
-cover_step (Some k) d h hs more = cond (leb (length (drop k d)) (length h.new_text)) (cover_made (take k d ++ h.old_text) (drop (length (drop k d)) h.new_text) hs)
-    (cover_made (take k d ++ (h.old_text ++ (more k).mid)) (more k).post (more k).rest)
-
--- what the units d cover that start at the point `place` of the new text
-abbrev pub cover : Point → List ℕ → List Hunk → Cover
-cover place d [] = cover_made d [] []
-cover place d (h ∷ hs) = cover_step (offset_of d (traversal h.new_start place)) d h hs (λ k. cover h.new_end (drop (length h.new_text) (drop k d)) hs)
-
--- that is so for the changes of these pieces, the first behind the points a and b
+-- what is found is what is covered, for the changes of these pieces, the first behind the points a and b
 pub record IsCover (a b : Point) (ps : List Piece) (tail d : List ℕ) (c : Cover) : Type 0 where
   pub rest : List Piece
   pub rest_tail : List ℕ
   pub covered : IsCovered ps tail (length d) c.mid c.post rest rest_tail
   pub rest_is : c.rest ≡ shown (traverse a (extent c.mid)) (traverse b (extent (d ++ c.post))) rest
   pub apart : AllApart rest
+  pub some : AllSome rest
 
 -- lists of which one begins the other
-shorter : (x y d z : List ℕ) → x ++ y ≡ d ++ z → length d ≤ length x → x ≡ d ++ drop (length d) x
+pub shorter : (x y d z : List ℕ) → x ++ y ≡ d ++ z → length d ≤ length x → x ≡ d ++ drop (length d) x
 shorter x y d z e le = sym (take-append-drop (length d) x) ∙ ap (λ (xs : List ℕ). xs ++ drop (length d) x) begins
   where
     begins : take (length d) x ≡ d
     begins = sym (take-append-le (length d) x y le) ∙ (ap (take (length d)) e ∙ take_at d z (length d) refl)
 
-behind_it : (x y d z : List ℕ) → x ++ y ≡ d ++ z → d ≡ x ++ drop (length x) d → y ≡ drop (length x) d ++ z
+pub behind_it : (x y d z : List ℕ) → x ++ y ≡ d ++ z → d ≡ x ++ drop (length x) d → y ≡ drop (length x) d ++ z
 behind_it x y d z e d_is = append_cancel_left x y (drop (length x) d ++ z) (e ∙ (ap (λ (xs : List ℕ). xs ++ z) d_is ∙ append_assoc x (drop (length x) d) z))
 
 -- the change isn't reached
-not_reached : (kept d : List ℕ) → kept ≡ d ++ drop (length d) kept → length d < length kept → offset_of d (extent kept) ≡ None
+pub not_reached : (kept d : List ℕ) → kept ≡ d ++ drop (length d) kept → length d < length kept → offset_of d (extent kept) ≡ None
 not_reached kept d kept_is lt = offset_of-nowhere d (extent kept) (λ i within e. apart i within (point_at_same kept i (length kept) (omega arith) (omega arith) (ap extent (same_units i within) ∙ (e ∙ ap extent (sym (take_all (length kept) kept (omega arith)))))))
   where
     same_units : (i : ℕ) → i ≤ length d → take i kept ≡ take i d
@@ -61,17 +43,17 @@ not_reached kept d kept_is lt = offset_of-nowhere d (extent kept) (λ i within e
     apart : (i : ℕ) → i ≤ length d → i ≡ length kept → ⊥
     apart i within e = omega arith
 
-reached : (kept d : List ℕ) → d ≡ kept ++ drop (length kept) d → length kept ≤ length d → offset_of d (extent kept) ≡ Some (length kept)
+pub reached : (kept d : List ℕ) → d ≡ kept ++ drop (length kept) d → length kept ≤ length d → offset_of d (extent kept) ≡ Some (length kept)
 reached kept d d_is le = offset_of-at d (extent kept) (length kept) le (ap extent (ap (take (length kept)) d_is ∙ take_at kept (drop (length kept) d) (length kept) refl))
 
 some_kept : (xs : List ℕ) → 0 < length xs → is_none xs ≡ false
 some_kept [] lt = absurd (omega arith)
 some_kept (u ∷ us) lt = refl
 
-extent_two : (a : Point) (x y : List ℕ) → traverse a (extent (x ++ y)) ≡ traverse (traverse a (extent x)) (extent y)
+pub extent_two : (a : Point) (x y : List ℕ) → traverse a (extent (x ++ y)) ≡ traverse (traverse a (extent x)) (extent y)
 extent_two a x y = ap (traverse a) (extent-append x y) ∙ sym (traverse_assoc a (extent x) (extent y))
 
-module _ (a b : Point) (p : Piece) (ps : List Piece) (tail d z : List ℕ) (apart : AllApart ps) (text_is : p.kept ++ (p.new ++ new_of ps tail) ≡ d ++ z) where
+module _ (a b : Point) (p : Piece) (ps : List Piece) (tail d z : List ℕ) (apart : AllApart ps) (some_units : AllSome (p ∷ ps)) (text_is : p.kept ++ (p.new ++ new_of ps tail) ≡ d ++ z) where
   h : Hunk
   h = hunk_between (traverse a (extent p.kept)) (traverse b (extent p.kept)) p.old p.new
 
@@ -90,6 +72,7 @@ module _ (a b : Point) (p : Piece) (ps : List Piece) (tail d z : List ℕ) (apar
         rest_is = ap (λ (x : Point). row x (traverse b (extent p.kept))) (way a) ∙ (ap (row (traverse (traverse a (extent d)) (extent (drop (length d) p.kept)))) (way b)
             ∙ ap (λ (xs : List ℕ). row (traverse (traverse a (extent d)) (extent (drop (length d) p.kept))) (traverse (traverse b (extent xs)) (extent (drop (length d) p.kept)))) (sym (append-nil d)));
         apart = (some_kept (drop (length d) p.kept) (omega (arith, length-drop (length d) p.kept)), apart);
+        some = some_units;
       }
     where
       kept_is : p.kept ≡ d ++ drop (length d) p.kept
@@ -125,6 +108,7 @@ module _ (a b : Point) (p : Piece) (ps : List Piece) (tail d z : List ℕ) (apar
       covered = subst (λ (n : ℕ). IsCovered (p ∷ ps) tail n (p.kept ++ p.old) (drop (length (drop (length p.kept) d)) p.new) ps tail) (sym sizes) (covered_new p ps tail (drop (length p.kept) d) (drop (length (drop (length p.kept) d)) p.new) new_is);
       rest_is = ap (λ (x : Point). shown x (traverse (traverse b (extent p.kept)) (extent p.new)) ps) (sym (extent_two a p.kept p.old)) ∙ ap (λ (x : Point). shown (traverse a (extent (p.kept ++ p.old))) x ps) (sym (ap (λ (xs : List ℕ). traverse b (extent xs)) whole ∙ extent_two b p.kept p.new));
       apart = apart;
+      some = some_units.1;
     }
       where
         hs : List Hunk
@@ -152,6 +136,7 @@ module _ (a b : Point) (p : Piece) (ps : List Piece) (tail d z : List ℕ) (apar
       rest_is = later.rest_is ∙ (ap (λ (x : Point). shown x (traverse (traverse (traverse b (extent p.kept)) (extent p.new)) (extent (d2 ++ r.post))) later.rest) (sym (led_on a p.kept p.old r.mid))
           ∙ ap (λ (x : Point). shown (traverse a (extent (p.kept ++ (p.old ++ r.mid)))) x later.rest) (sym (ap (λ (xs : List ℕ). traverse b (extent xs)) whole ∙ led_on b p.kept p.new (d2 ++ r.post))));
       apart = later.apart;
+      some = later.some;
     }
       where
         d2 : List ℕ
@@ -173,24 +158,19 @@ module _ (a b : Point) (p : Piece) (ps : List Piece) (tail d z : List ℕ) (apar
             ∙ (ap (λ (c : Cover). cover_made (take (length p.kept) d ++ (p.old ++ c.mid)) c.post c.rest) (sym r_is)
             ∙ ap (λ (xs : List ℕ). cover_made (xs ++ (p.old ++ r.mid)) r.post r.rest) begins))
 
--- pieces of which all but the first have something kept before them
-abbrev pub AllApartBehind : List Piece → Type 0
-AllApartBehind [] = Unit {0}
-AllApartBehind (p ∷ ps) = AllApart ps
-
 from_apart : (ps : List Piece) → AllApart ps → AllApartBehind ps
 from_apart [] apart = tt
 from_apart (p ∷ ps) apart = apart.1
 
 -- what is found is what is covered
-pub cover_is : (a b : Point) (ps : List Piece) (tail d z : List ℕ) → AllApartBehind ps → new_of ps tail ≡ d ++ z → IsCover a b ps tail d (cover b d (shown a b ps))
-cover_is a b [] tail d z apart text_is = record { rest = []; rest_tail = z; covered = covered_tail tail d z text_is; rest_is = refl; apart = tt }
-cover_is a b (p ∷ ps) tail d z apart text_is = elim (cases_lt (length d) (length p.kept)) [
-  | inl lt ↦ step_kept a b p ps tail d z apart text_is lt
+pub cover_is : (a b : Point) (ps : List Piece) (tail d z : List ℕ) → AllApartBehind ps → AllSome ps → new_of ps tail ≡ d ++ z → IsCover a b ps tail d (cover b d (shown a b ps))
+cover_is a b [] tail d z apart some_units text_is = record { rest = []; rest_tail = z; covered = covered_tail tail d z text_is; rest_is = refl; apart = tt; some = tt }
+cover_is a b (p ∷ ps) tail d z apart some_units text_is = elim (cases_lt (length d) (length p.kept)) [
+  | inl lt ↦ step_kept a b p ps tail d z apart some_units text_is lt
   | inr le ↦ elim (cases_lt (length p.new) (length (drop (length p.kept) d))) [
-    | inr within ↦ step_new a b p ps tail d z apart text_is le within
-    | inl longer ↦ step_more a b p ps tail d z apart text_is le longer (cover (traverse (traverse b (extent p.kept)) (extent p.new)) (drop (length p.new) (drop (length p.kept) d)) (shown (traverse (traverse a (extent p.kept)) (extent p.old)) (traverse (traverse b (extent p.kept)) (extent p.new)) ps)) refl
-        (cover_is (traverse (traverse a (extent p.kept)) (extent p.old)) (traverse (traverse b (extent p.kept)) (extent p.new)) ps tail (drop (length p.new) (drop (length p.kept) d)) z (from_apart ps apart)
-        (append_cancel_left p.new (new_of ps tail) (drop (length p.new) (drop (length p.kept) d) ++ z) (behind a b p ps tail d z apart text_is le ∙ (ap (λ (xs : List ℕ). xs ++ z) (shorter (drop (length p.kept) d) z p.new (new_of ps tail) (sym (behind a b p ps tail d z apart text_is le)) (omega arith)) ∙ append_assoc p.new (drop (length p.new) (drop (length p.kept) d)) z))))
+    | inr within ↦ step_new a b p ps tail d z apart some_units text_is le within
+    | inl longer ↦ step_more a b p ps tail d z apart some_units text_is le longer (cover (traverse (traverse b (extent p.kept)) (extent p.new)) (drop (length p.new) (drop (length p.kept) d)) (shown (traverse (traverse a (extent p.kept)) (extent p.old)) (traverse (traverse b (extent p.kept)) (extent p.new)) ps)) refl
+        (cover_is (traverse (traverse a (extent p.kept)) (extent p.old)) (traverse (traverse b (extent p.kept)) (extent p.new)) ps tail (drop (length p.new) (drop (length p.kept) d)) z (from_apart ps apart) some_units.1
+        (append_cancel_left p.new (new_of ps tail) (drop (length p.new) (drop (length p.kept) d) ++ z) (behind a b p ps tail d z apart some_units text_is le ∙ (ap (λ (xs : List ℕ). xs ++ z) (shorter (drop (length p.kept) d) z p.new (new_of ps tail) (sym (behind a b p ps tail d z apart some_units text_is le)) (omega arith)) ∙ append_assoc p.new (drop (length p.new) (drop (length p.kept) d)) z))))
   ]
 ]

@@ -1,5 +1,5 @@
 -- A text that fits a patch: the stretches between its changes filled with line feeds and one letter.
-use Rattle.std.proofs.Common.{◌≡◌, ℕ, suc, zero, ◌+◌, ◌-◌, ◌<◌, ◌≤◌, List, [], ◌∷◌, ◌++◌, length, replicate, Bool, true, false, None, refl, sym, ap, ◌∙◌, subst, arith, length-append}
+use Rattle.std.proofs.Common.{◌≡◌, ℕ, suc, zero, ◌+◌, List, [], ◌∷◌, ◌++◌, replicate, true, None, refl, sym, ap, ◌∙◌, subst, arith}
 use Rattle.std.specs.List.{All}
 use Rattle.std.proofs.lemmas.List.{length-replicate}
 use Rattle.std.proofs.lemmas.List.Elements.{All-head, All-tail}
@@ -7,7 +7,7 @@ use Rattle.std.proofs.lemmas.Bool.{and_parts}
 use Rattle.std.proofs.lemmas.Bool.Decides.{nat_tests}
 use Rattle.points.specs.declared.point.Point.{Point}
 use Rattle.points.specs.Point.{origin, point_le, traverse, traversal}
-use Rattle.points.specs.Place.{extent, same_point}
+use Rattle.points.specs.Place.{extent}
 use Rattle.points.proofs.PointLemmas.{same_coordinates, same_point-true, traverse-traversal}
 use Rattle.points.proofs.ExtentLemmas.{feeds, behind, feeds-cons, behind-append, behind_whole, extent-append}
 use Rattle.patch.specs.Hunk.{Hunk}

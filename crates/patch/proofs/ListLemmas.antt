@@ -1,16 +1,15 @@
 -- The rules of a list of changes: tested at each in turn, and kept when the sides are exchanged.
-use Rattle.std.proofs.Common.{◌≡◌, ℕ, suc, zero, ◌+◌, ◌<◌, ◌≤◌, ◌^◌, ◌⊎◌, List, [], ◌∷◌, ◌++◌, length, take, drop, get_or, map, cond, ltb, eqb, Bool, true, false, Option, Some, None, refl, sym, ap, ◌∙◌, subst, inl, inr, arith, ◌&&◌, ◌||◌, not}
+use Rattle.std.proofs.Common.{◌≡◌, ℕ, suc, zero, ◌+◌, ◌<◌, ◌^◌, List, [], ◌∷◌, length, drop, get_or, map, cond, ltb, eqb, Bool, true, false, Option, Some, None, refl, sym, ap, ◌∙◌, inl, inr, arith, ◌&&◌, ◌||◌, not}
 use Rattle.std.specs.Option.{option_or, is_some}
 use Rattle.std.specs.List.{All}
-use Rattle.std.proofs.lemmas.Bool.{cases_Bool, not-false, and_parts, and_from, and_cases, and_left, and_right, false_from_ne_true, both_ways}
+use Rattle.std.proofs.lemmas.Bool.{not-false, and_parts, and_from, and_cases, and_left, and_right, false_from_ne_true, both_ways}
 use Rattle.std.proofs.lemmas.Bool.Decides.{nat_tests}
 use Rattle.std.proofs.lemmas.List.{drop_more}
 use Rattle.points.specs.declared.point.Point.{Point}
-use Rattle.points.specs.Point.{origin, point_le, traverse, traversal}
+use Rattle.points.specs.Point.{point_le, traversal}
 use Rattle.points.specs.Place.{extent, same_point}
-use Rattle.points.proofs.PointLemmas.{same_point-true, same_point-refl, traverse-traversal, point_le-refl}
 use Rattle.patch.specs.Hunk.{Hunk, hunk_of, hunks_of, inverted}
-use Rattle.patch.specs.ChangeList.{is_far, reaches_far, is_empty_change, is_behind, has_extents, fault_at, fault_from, fault_of, IsOrdered, IsPatch}
+use Rattle.patch.specs.ChangeList.{is_far, reaches_far, is_empty_change, is_behind, has_extents, fault_at, fault_from, IsOrdered}
 use Rattle.patch.specs.declared.change.Change.{Change}
 use Rattle.patch.specs.declared.refusal.ListRefusal.{ListRefusal}
 
@@ -76,10 +75,19 @@ and_swap x y h = let p = and_parts x y h in and_from y x p.1 p.0
 no_stretch : (p a q b : Point) → point_le a p ≡ true → point_le b q ≡ true → same_point (traversal p a) (traversal q b) ≡ true → same_point q b ≡ true → same_point p a ≡ true
 no_stretch p a q b p_behind q_behind same_reach none = grind (arith, nat_tests)
 
--- the stretch before a change reaches equally far on both sides
+-- the stretch before a change reaches equally far on both sides, and its texts reach over its ranges
+pub record HasReaches (a b : Point) (h : Hunk) : Type 0 where
+  pub stretch : same_point (traversal h.old_start a) (traversal h.new_start b) ≡ true
+  pub old_text : same_point (extent h.old_text) (traversal h.old_end h.old_start) ≡ true
+  pub new_text : same_point (extent h.new_text) (traversal h.new_end h.new_start) ≡ true
+
+pub reaches_of : (a b : Point) (h : Hunk) → has_extents a b h ≡ true → HasReaches a b h
+reaches_of a b h e =
+    let parts = and_parts (same_point (traversal h.old_start a) (traversal h.new_start b) && same_point (extent h.old_text) (traversal h.old_end h.old_start)) (same_point (extent h.new_text) (traversal h.new_end h.new_start)) e in
+    let first = and_parts (same_point (traversal h.old_start a) (traversal h.new_start b)) (same_point (extent h.old_text) (traversal h.old_end h.old_start)) parts.0 in record { stretch = first.0; old_text = first.1; new_text = parts.1 }
+
 pub stretch_of : (at : ℕ) (a b : Point) (h : Hunk) → IsSound at a b h → same_point (traversal h.old_start a) (traversal h.new_start b) ≡ true
-stretch_of at a b h s = (and_parts (same_point (traversal h.old_start a) (traversal h.new_start b)) (same_point (extent h.old_text) (traversal h.old_end h.old_start))
-    (and_parts (same_point (traversal h.old_start a) (traversal h.new_start b) && same_point (extent h.old_text) (traversal h.old_end h.old_start)) (same_point (extent h.new_text) (traversal h.new_end h.new_start)) s.extents).0).0
+stretch_of at a b h s = (reaches_of a b h s.extents).stretch
 
 inverted_apart : (at : ℕ) (a b : Point) (h : Hunk) → IsSound at a b h → (ltb 0 at && same_point h.new_start b) ≡ false
 inverted_apart at a b h s = elim (and_cases (ltb 0 at) (same_point h.old_start a) s.apart) [

@@ -1,22 +1,22 @@
 -- A patch on a text that it fits, cut into pieces: each change's kept stretch before it, its old text and its new one.
-use Rattle.std.proofs.Common.{◌≡◌, ℕ, suc, zero, ◌+◌, ◌-◌, ◌<◌, ◌≤◌, ◌⊎◌, List, [], ◌∷◌, ◌++◌, length, take, drop, map, cond, slice_range, unwrap_or, Bool, true, false, ◌&&◌, Option, Some, None, refl, sym, ap, ◌∙◌, subst, inl, inr, arith, append_assoc, length-append, length-drop, length-take, take-append-drop}
-use Rattle.std.specs.List.{All}
-use Rattle.std.proofs.lemmas.List.{append-nil, drop_at, take_at, drop-drop, take_all, length-take-le}
+use Rattle.std.proofs.Common.{◌≡◌, ℕ, suc, zero, ◌+◌, ◌-◌, ◌≤◌, List, [], ◌∷◌, ◌++◌, length, take, drop, slice_range, unwrap_or, Bool, true, false, Option, Some, refl, sym, ap, ◌∙◌, subst, inl, inr, arith, append_assoc, length-append, take-append-drop}
+use Rattle.std.proofs.lemmas.List.{drop_at, take_at, drop-drop, length-take-le}
 use Rattle.std.proofs.lemmas.List.Elements.{All-head, All-tail}
-use Rattle.std.proofs.lemmas.Bool.{and_parts, cases_lt}
+use Rattle.std.proofs.lemmas.Bool.{and_parts, and_cases, both_ways, cases_lt}
 use Rattle.std.proofs.lemmas.Bool.Decides.{nat_tests}
 use Rattle.points.specs.declared.point.Point.{Point}
 use Rattle.points.specs.Point.{origin, point_le, point_lt, traverse, traversal}
-use Rattle.points.specs.Place.{extent, point_at, offset_of, same_point}
-use Rattle.points.proofs.PointLemmas.{same_point-true, traverse-traversal, traversal-traverse, traverse_assoc}
+use Rattle.points.specs.Place.{extent, point_at, same_point}
+use Rattle.points.proofs.PointLemmas.{same_point-true, same_point-false, traverse_origin, traverse-traversal, traversal-traverse, traverse_assoc}
 use Rattle.points.proofs.ExtentLemmas.{extent-append}
 use Rattle.points.proofs.OffsetLemmas.{point_at_lt, offset_of-at}
 use Rattle.patch.specs.Hunk.{Hunk}
-use Rattle.patch.specs.ChangeList.{is_behind, has_extents, fault_at, fault_from, IsOrdered, IsPatch}
-use Rattle.patch.specs.Tagged.{Tagged, tagged_from, tagged, untagged, units_of}
-use Rattle.patch.specs.Fit.{StandsAt, HunkFits, Fits, offset_in, tag_from, tag, applied}
-use Rattle.patch.proofs.ListLemmas.{IsSound, sound_from, both_none, stretch_of}
-use Rattle.patch.proofs.Pieces.{Piece, old_of, new_of, tag_of}
+use Rattle.patch.specs.ChangeList.{IsPatch}
+use Rattle.patch.specs.Tagged.{Tagged, tagged_from, tagged, untagged}
+use Rattle.patch.specs.Fit.{StandsAt, HunkFits, Fits, offset_in, tag_from}
+use Rattle.patch.proofs.ListLemmas.{IsSound, reaches_of}
+use Rattle.patch.proofs.GapLists.{IsGap, AreGaps, IsGapList, gaps_of_patch}
+use Rattle.patch.proofs.Pieces.{Piece, old_of, tag_of, is_none, AllApart, AllApartBehind, AllSome}
 
 abbrev pub hunk_with : Point → Point → Point → Point → List ℕ → List ℕ → Hunk
 hunk_with a a' b b' old new = record { old_start = a; old_end = a'; new_start = b; new_end = b'; old_text = old; new_text = new }
@@ -56,11 +56,10 @@ pub taken : (s front x y : List ℕ) (n : ℕ) → s ≡ front ++ (x ++ y) → n
 taken s front x y n s_is n_is = ap (take n) (s_is ∙ sym (append_assoc front x y)) ∙ take_at (front ++ x) y n (length-append front x ∙ sym n_is)
 
 pub old_text_of : (at : ℕ) (a b : Point) (h : Hunk) → IsSound at a b h → same_point (extent h.old_text) (traversal h.old_end h.old_start) ≡ true
-old_text_of at a b h s = (and_parts (same_point (traversal h.old_start a) (traversal h.new_start b)) (same_point (extent h.old_text) (traversal h.old_end h.old_start))
-    (and_parts (same_point (traversal h.old_start a) (traversal h.new_start b) && same_point (extent h.old_text) (traversal h.old_end h.old_start)) (same_point (extent h.new_text) (traversal h.new_end h.new_start)) s.extents).0).1
+old_text_of at a b h s = (reaches_of a b h s.extents).old_text
 
 pub new_text_of : (at : ℕ) (a b : Point) (h : Hunk) → IsSound at a b h → same_point (extent h.new_text) (traversal h.new_end h.new_start) ≡ true
-new_text_of at a b h s = (and_parts (same_point (traversal h.old_start a) (traversal h.new_start b) && same_point (extent h.old_text) (traversal h.old_end h.old_start)) (same_point (extent h.new_text) (traversal h.new_end h.new_start)) s.extents).1
+new_text_of at a b h s = (reaches_of a b h s.extents).new_text
 
 -- a change that stands behind `front`: what is kept before it, and what comes behind
 record IsNext (s front rest : List ℕ) (b : Point) (i : ℕ) (h : Hunk) (kept after : List ℕ) : Type 0 where
@@ -86,9 +85,9 @@ same_hunk h a b e1 e2 e3 e4 = ap (λ (x : Point). hunk_with x h.old_end h.new_st
     ∙ (ap (λ (x : Point). hunk_with a (traverse a (extent h.old_text)) x h.new_end h.old_text h.new_text) e3
     ∙ ap (λ (x : Point). hunk_with a (traverse a (extent h.old_text)) b x h.old_text h.new_text) e4))
 
-next_hunk : (s front rest : List ℕ) (b : Point) (at i : ℕ) (h : Hunk) → s ≡ front ++ rest → IsSound at (extent front) b h → IsOrdered h → StandsAt s i h.old_start h.old_end h.old_text
+next_hunk : (s front rest : List ℕ) (b : Point) (later : Bool) (i : ℕ) (h : Hunk) → s ≡ front ++ rest → IsGap later (extent front) b h → StandsAt s i h.old_start h.old_end h.old_text
     → IsNext s front rest b i h (take (i - length front) rest) (drop (length h.old_text) (drop (i - length front) rest))
-next_hunk s front rest b at i h s_is sound ordered stands = record {
+next_hunk s front rest b later i h s_is sound stands = record {
   cut = sym (take-append-drop m rest) ∙ ap (λ (xs : List ℕ). take m rest ++ xs) (sym (take-append-drop (length h.old_text) (drop m rest)) ∙ ap (λ (xs : List ℕ). xs ++ drop (length h.old_text) (drop m rest)) old_is);
   offset = omega (arith, kept_length, above);
   start = start_is;
@@ -133,37 +132,48 @@ next_hunk s front rest b at i h s_is sound ordered stands = record {
         ∙ (extent-append front (take (i - length front) rest ++ h.old_text) ∙ (ap (traverse (extent front)) (extent-append (take (i - length front) rest) h.old_text) ∙ sym (traverse_assoc (extent front) (extent (take (i - length front) rest)) (extent h.old_text)))))
 
     stretch : traversal h.new_start b ≡ extent (take (i - length front) rest)
-    stretch = sym (same_point-true (traversal h.old_start (extent front)) (traversal h.new_start b) (stretch_of at (extent front) b h sound))
+    stretch = sym (same_point-true (traversal h.old_start (extent front)) (traversal h.new_start b) (reaches_of (extent front) b h sound.extents).stretch)
         ∙ (ap (λ (x : Point). traversal x (extent front)) start_is ∙ traversal-traverse (extent front) (extent (take (i - length front) rest)))
 
     new_start_is : h.new_start ≡ traverse b (extent (take (i - length front) rest))
     new_start_is = sym (traverse-traversal h.new_start b (and_parts (point_le (extent front) h.old_start) (point_le b h.new_start) sound.behind).1) ∙ ap (traverse b) stretch
 
     new_end_is : h.new_end ≡ traverse (traverse b (extent (take (i - length front) rest))) (extent h.new_text)
-    new_end_is = sym (traverse-traversal h.new_end h.new_start ordered.1)
-        ∙ (ap (traverse h.new_start) (sym (same_point-true (extent h.new_text) (traversal h.new_end h.new_start) (new_text_of at (extent front) b h sound))) ∙ ap (λ (x : Point). traverse x (extent h.new_text)) new_start_is)
+    new_end_is = sym (traverse-traversal h.new_end h.new_start sound.ordered.1)
+        ∙ (ap (traverse h.new_start) (sym (same_point-true (extent h.new_text) (traversal h.new_end h.new_start) (reaches_of (extent front) b h sound.extents).new_text)) ∙ ap (λ (x : Point). traverse x (extent h.new_text)) new_start_is)
 
 -- a patch on a text behind `front`, cut into pieces
-pub record IsCut (s front rest : List ℕ) (b : Point) (p : List Hunk) : Type 0 where
+pub record IsCut (later : Bool) (s front rest : List ℕ) (b : Point) (p : List Hunk) : Type 0 where
   pub pieces : List Piece
   pub tail : List ℕ
   pub text : rest ≡ old_of pieces tail
   pub tags : tag_from s (length front) p ≡ tag_of (length front) pieces tail
   pub is : p ≡ shown (extent front) b pieces
+  pub some : AllSome pieces
+  pub apart : later ≡ true → AllApart pieces
+  pub behind : AllApartBehind pieces
 
-next_cut : (s front rest : List ℕ) (b : Point) (h : Hunk) (hs : List Hunk) (i : ℕ) (kept after : List ℕ) → StandsAt s i h.old_start h.old_end h.old_text → IsNext s front rest b i h kept after
-    → IsCut s (front ++ kept ++ h.old_text) after (traverse (traverse b (extent kept)) (extent h.new_text)) hs → s ≡ front ++ rest → IsCut s front rest b (h ∷ hs)
-next_cut s front rest b h hs i kept after stands next later s_is = record {
-  pieces = record { kept = kept; old = h.old_text; new = h.new_text } ∷ later.pieces;
-  tail = later.tail;
-  text = next.cut ∙ ap (λ (xs : List ℕ). kept ++ (h.old_text ++ xs)) later.text;
+-- something stays between a change and the point where the one before it ends
+kept_between : (kept : List ℕ) (a start : Point) → start ≡ traverse a (extent kept) → same_point start a ≡ false → is_none kept ≡ false
+kept_between [] a start e apart = absurd (same_point-false start a apart (e ∙ traverse_origin a))
+kept_between (u ∷ us) a start e apart = refl
+
+next_cut : (s front rest : List ℕ) (b : Point) (later : Bool) (h : Hunk) (hs : List Hunk) (i : ℕ) (kept after : List ℕ) → IsGap later (extent front) b h → StandsAt s i h.old_start h.old_end h.old_text → IsNext s front rest b i h kept after
+    → IsCut true s (front ++ kept ++ h.old_text) after (traverse (traverse b (extent kept)) (extent h.new_text)) hs → s ≡ front ++ rest → IsCut later s front rest b (h ∷ hs)
+next_cut s front rest b later h hs i kept after gap stands next more s_is = record {
+  pieces = record { kept = kept; old = h.old_text; new = h.new_text } ∷ more.pieces;
+  tail = more.tail;
+  text = next.cut ∙ ap (λ (xs : List ℕ). kept ++ (h.old_text ++ xs)) more.text;
   tags = ap (λ (n : ℕ). slice_range (tagged s) (length front) n ++ untagged h.new_text ++ tag_from s (offset_in s h.old_end) hs) start_offset
       ∙ (ap (λ (n : ℕ). slice_range (tagged s) (length front) i ++ untagged h.new_text ++ tag_from s n hs) end_offset
       ∙ (ap (λ (g : Tagged). g ++ untagged h.new_text ++ tag_from s (i + length h.old_text) hs) (tagged_range s front kept (h.old_text ++ after) (length front) i (s_is ∙ ap (λ (xs : List ℕ). front ++ xs) next.cut) refl next.offset)
       ∙ (append_assoc (tagged_from (length front) kept) (untagged h.new_text) (tag_from s (i + length h.old_text) hs)
-      ∙ ap (λ (g : Tagged). tagged_from (length front) kept ++ (untagged h.new_text ++ g)) (ap (λ (n : ℕ). tag_from s n hs) (sym front_length) ∙ (later.tags ∙ ap (λ (n : ℕ). tag_of n later.pieces later.tail) (front_length ∙ omega (arith, next.offset)))))));
-  is = ap (λ (x : Hunk). x ∷ hs) next.hunk ∙ ap (λ (xs : List Hunk). hunk_between (traverse (extent front) (extent kept)) (traverse b (extent kept)) h.old_text h.new_text ∷ xs) (later.is
-      ∙ ap (λ (x : Point). shown x (traverse (traverse b (extent kept)) (extent h.new_text)) later.pieces) (extent-append (front ++ kept) h.old_text ∙ ap (λ (x : Point). traverse x (extent h.old_text)) (extent-append front kept)));
+      ∙ ap (λ (g : Tagged). tagged_from (length front) kept ++ (untagged h.new_text ++ g)) (ap (λ (n : ℕ). tag_from s n hs) (sym front_length) ∙ (more.tags ∙ ap (λ (n : ℕ). tag_of n more.pieces more.tail) (front_length ∙ omega (arith, next.offset)))))));
+  is = ap (λ (x : Hunk). x ∷ hs) next.hunk ∙ ap (λ (xs : List Hunk). hunk_between (traverse (extent front) (extent kept)) (traverse b (extent kept)) h.old_text h.new_text ∷ xs) (more.is
+      ∙ ap (λ (x : Point). shown x (traverse (traverse b (extent kept)) (extent h.new_text)) more.pieces) (extent-append (front ++ kept) h.old_text ∙ ap (λ (x : Point). traverse x (extent h.old_text)) (extent-append front kept)));
+  some = (gap.some_units, more.some);
+  apart = λ is_later. (kept_here is_later, more.apart refl);
+  behind = more.apart refl;
 }
   where
     start_offset : offset_in s h.old_start ≡ i
@@ -175,27 +185,36 @@ next_cut s front rest b h hs i kept after stands next later s_is = record {
     front_length : length (front ++ kept ++ h.old_text) ≡ i + length h.old_text
     front_length = length-append (front ++ kept) h.old_text ∙ omega (arith, length-append front kept, next.offset)
 
-pub cut_at : (s front rest : List ℕ) (b : Point) (at : ℕ) (p : List Hunk) → s ≡ front ++ rest → fault_from at (extent front) b p ≡ None → All IsOrdered p → Fits p s → IsCut s front rest b p
-cut_at s front rest b at [] s_is none ordered fits = record {
+    kept_here : later ≡ true → is_none kept ≡ false
+    kept_here is_later = kept_between kept (extent front) h.old_start next.start (elim (and_cases later (same_point h.old_start (extent front)) gap.apart) [ inl first ↦ absurd (both_ways later first is_later) | inr apart ↦ apart ])
+
+pub cut_at : (s front rest : List ℕ) (b : Point) (later : Bool) (p : List Hunk) → s ≡ front ++ rest → AreGaps later (extent front) b p → Fits p s → IsCut later s front rest b p
+cut_at s front rest b later [] s_is gaps fits = record {
   pieces = [];
   tail = rest;
   text = refl;
   tags = drop-tagged (length front) 0 s ∙ (ap (λ (xs : List ℕ). tagged_from (0 + length front) (drop (length front) xs)) s_is ∙ (ap (tagged_from (0 + length front)) (drop_at front rest (length front) refl) ∙ ap (λ (n : ℕ). tagged_from n rest) (omega arith)));
   is = refl;
+  some = tt;
+  apart = λ _. tt;
+  behind = tt;
 }
-cut_at s front rest b at (h ∷ hs) s_is none ordered fits =
-    let parts = both_none (fault_at at (extent front) b h) (fault_from (at + 1) h.old_end h.new_end hs) none in
+cut_at s front rest b later (h ∷ hs) s_is gaps fits =
     let here = All-head (HunkFits s) h hs fits in
-    let next = next_hunk s front rest b at here.0 h s_is (sound_from at (extent front) b h parts.0) (All-head IsOrdered h hs ordered) here.1 in
+    let next = next_hunk s front rest b later here.0 h s_is gaps.0 here.1 in
     let kept : List ℕ = take (here.0 - length front) rest in
     let after : List ℕ = drop (length h.old_text) (drop (here.0 - length front) rest) in
     let whole : s ≡ front ++ kept ++ h.old_text ++ after = s_is ∙ (ap (λ (xs : List ℕ). front ++ xs) next.cut ∙ (sym (append_assoc front kept (h.old_text ++ after)) ∙ sym (append_assoc (front ++ kept) h.old_text after))) in
     let old_end : h.old_end ≡ extent (front ++ kept ++ h.old_text) = ap (λ (x : Hunk). x.old_end) next.hunk ∙ (ap (λ (x : Point). traverse x (extent h.old_text)) (sym (extent-append front kept)) ∙ sym (extent-append (front ++ kept) h.old_text)) in
     let new_end : h.new_end ≡ traverse (traverse b (extent kept)) (extent h.new_text) = ap (λ (x : Hunk). x.new_end) next.hunk in
-    next_cut s front rest b h hs here.0 kept after here.1 next (cut_at s (front ++ kept ++ h.old_text) after (traverse (traverse b (extent kept)) (extent h.new_text)) (at + 1) hs whole
-    (subst (λ (x : Point). fault_from (at + 1) x (traverse (traverse b (extent kept)) (extent h.new_text)) hs ≡ None) old_end (subst (λ (x : Point). fault_from (at + 1) h.old_end x hs ≡ None) new_end parts.1))
-    (All-tail IsOrdered h hs ordered) (All-tail (HunkFits s) h hs fits)) s_is
+    next_cut s front rest b later h hs here.0 kept after gaps.0 here.1 next (cut_at s (front ++ kept ++ h.old_text) after (traverse (traverse b (extent kept)) (extent h.new_text)) true hs whole
+    (subst (λ (x : Point). AreGaps true x (traverse (traverse b (extent kept)) (extent h.new_text)) hs) old_end (subst (λ (x : Point). AreGaps true h.old_end x hs) new_end gaps.1))
+    (All-tail (HunkFits s) h hs fits)) s_is
+
+-- gaps on a text that they fit
+pub cut_of_gaps : (s : List ℕ) (p : List Hunk) → IsGapList p → Fits p s → IsCut false s [] s origin p
+cut_of_gaps s p gaps fits = cut_at s [] s origin false p refl gaps fits
 
 -- a patch on a text that it fits
-pub cut_of : (s : List ℕ) (p : List Hunk) → IsPatch p → Fits p s → IsCut s [] s origin p
-cut_of s p is_patch fits = cut_at s [] s origin 0 p refl is_patch.0 is_patch.1 fits
+pub cut_of : (s : List ℕ) (p : List Hunk) → IsPatch p → Fits p s → IsCut false s [] s origin p
+cut_of s p is_patch fits = cut_of_gaps s p (gaps_of_patch p is_patch) fits

@@ -1,13 +1,14 @@
 -- A tagged text as pieces: a stretch that stays, then units taken out and units put in, and what stays behind the last.
 -- Read off the pieces, the gaps need no text: they are the runs of pieces with nothing between them, and each is joined.
-use Rattle.std.proofs.Common.{◌≡◌, ℕ, suc, zero, ◌+◌, ◌-◌, ◌<◌, ◌≤◌, ◌==◌, List, [], ◌∷◌, ◌++◌, length, take, drop, map, cond, slice_range, Bool, true, false, ◌&&◌, Option, Some, None, refl, sym, ap, ◌∙◌, subst, arith, append_assoc, length-append, length-drop, eqb}
-use Rattle.std.proofs.lemmas.List.{append-nil, drop_at, take_at, drop-drop, drop_all, map-append, take_all}
+use Rattle.std.proofs.Common.{◌≡◌, ℕ, suc, ◌+◌, ◌-◌, ◌==◌, List, [], ◌∷◌, ◌++◌, length, take, drop, cond, slice_range, Bool, true, false, ◌&&◌, refl, sym, ap, ◌∙◌, arith, append_assoc, length-append}
+use Rattle.std.proofs.lemmas.List.{append-nil, drop_at, take_at}
 use Rattle.points.specs.declared.point.Point.{Point}
 use Rattle.points.specs.Point.{origin, traverse}
 use Rattle.points.specs.Place.{extent, point_at}
 use Rattle.points.proofs.ExtentLemmas.{extent-append}
 use Rattle.patch.specs.Hunk.{Hunk}
-use Rattle.patch.specs.Tagged.{Tagged, tagged_from, tagged, untagged, units_of, gap, gaps_from, gaps}
+use Rattle.patch.specs.Tagged.{Tagged, tagged_from, untagged, gap, gaps_from, gaps}
+use Rattle.patch.specs.Spliced.{change_at}
 
 pub record Piece : Type 0 where
   pub kept : List ℕ
@@ -18,6 +19,19 @@ pub record Piece : Type 0 where
 abbrev pub is_none : List ℕ → Bool
 is_none [] = true
 is_none (u ∷ us) = false
+
+-- each piece has something kept before it; each but the first; each has some unit in one of its two texts
+abbrev pub AllApart : List Piece → Type 0
+AllApart [] = Unit {0}
+AllApart (p ∷ ps) = (is_none p.kept ≡ false) × AllApart ps
+
+abbrev pub AllApartBehind : List Piece → Type 0
+AllApartBehind [] = Unit {0}
+AllApartBehind (p ∷ ps) = AllApart ps
+
+abbrev pub AllSome : List Piece → Type 0
+AllSome [] = Unit {0}
+AllSome (p ∷ ps) = (((length p.old == 0) && (length p.new == 0)) ≡ false) × AllSome ps
 
 -- the old text of pieces, where `tail` stays behind the last
 abbrev pub old_of : List Piece → List ℕ → List ℕ
@@ -33,17 +47,6 @@ new_of (p ∷ ps) tail = p.kept ++ (p.new ++ new_of ps tail)
 abbrev pub tag_of : ℕ → List Piece → List ℕ → Tagged
 tag_of i [] tail = tagged_from i tail
 tag_of i (p ∷ ps) tail = tagged_from i p.kept ++ (untagged p.new ++ tag_of (i + length p.kept + length p.old) ps tail)
-
--- the change that starts at these points of the old and the new text; none where both texts are empty
-abbrev pub change_at : Point → Point → List ℕ → List ℕ → List Hunk
-change_at a b old new = cond ((length old == 0) && (length new == 0)) [] (record {
-  old_start = a;
-  old_end = traverse a (extent old);
-  new_start = b;
-  new_end = traverse b (extent new);
-  old_text = old;
-  new_text = new;
-} ∷ [])
 
 -- the changes that pieces make behind one that is still open: it starts at these points, and has these texts so far
 abbrev pub changes_of : Point → Point → List ℕ → List ℕ → List Piece → List Hunk

@@ -1,10 +1,10 @@
 -- What halving finds: the last item that passes, and the items between two places.
-use Rattle.std.proofs.Common.{◌≡◌, ℕ, suc, zero, ◌+◌, ◌-◌, ◌<◌, ◌≤◌, List, [], ◌∷◌, length, get_or, cond, ltb, leb, eqb, Bool, true, false, ◌&&◌, not, Option, Some, None, unwrap_or, count_by, map, refl, sym, ap, ◌∙◌, subst, arith, IfSome, SomeIff}
+use Rattle.std.proofs.Common.{◌≡◌, ℕ, suc, zero, ◌+◌, ◌-◌, ◌<◌, ◌≤◌, List, [], ◌∷◌, length, get_or, cond, ltb, eqb, Bool, true, false, Option, Some, None, unwrap_or, count_by, map, refl, sym, ap, ◌∙◌, arith, IfSome, SomeIff}
 use Rattle.std.specs.Option.{option_or}
 use Rattle.std.specs.List.{position_from}
 use Rattle.std.specs.List.Sorted.{IsPartitionPoint}
 use Rattle.std.proofs.lemmas.List.Sums.{sum_by-cons}
-use Rattle.std.proofs.lemmas.Bool.{ne_eqb, lt-ltb, le-ltb, cases_lt}
+use Rattle.std.proofs.lemmas.Bool.{ne_eqb, lt-ltb, le-ltb}
 use Rattle.std.proofs.lemmas.Bool.Decides.{nat_tests}
 use Rattle.patch.specs.LookUp.{last_from, run_where}
 use Rattle.patch.specs.declared.change.Run.{Run}

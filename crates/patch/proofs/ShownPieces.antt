@@ -1,19 +1,17 @@
 -- The changes of pieces fit the pieces' old text and make their new text of it, and back.
-use Rattle.std.proofs.Common.{◌≡◌, ℕ, suc, zero, ◌+◌, ◌-◌, ◌<◌, ◌≤◌, List, [], ◌∷◌, ◌++◌, length, take, drop, map, slice_range, unwrap_or, Bool, true, Option, Some, None, refl, sym, ap, ◌∙◌, subst, arith, append_assoc, length-append}
-use Rattle.std.specs.List.{All}
-use Rattle.std.proofs.lemmas.List.{append-nil, drop_at, take_at, map-append, map-id}
-use Rattle.std.proofs.lemmas.List.Elements.{All-head, All-tail, All-nil, All-cons}
-use Rattle.std.proofs.lemmas.Bool.{and_parts}
+use Rattle.std.proofs.Common.{◌≡◌, ℕ, ◌+◌, List, [], ◌∷◌, ◌++◌, length, take, drop, map, slice_range, unwrap_or, Option, refl, sym, ap, ◌∙◌, subst, arith, append_assoc, length-append}
+use Rattle.std.proofs.lemmas.List.{drop_at, take_at, map-append}
+use Rattle.std.proofs.lemmas.List.Elements.{All-nil, All-cons}
 use Rattle.points.specs.declared.point.Point.{Point}
-use Rattle.points.specs.Point.{origin, point_le, traverse, traversal}
-use Rattle.points.specs.Place.{extent, point_at, offset_of, same_point}
-use Rattle.points.proofs.PointLemmas.{same_point-true, traverse-traversal, traversal-traverse, traverse_assoc}
+use Rattle.points.specs.Point.{origin, traverse}
+use Rattle.points.specs.Place.{extent}
+use Rattle.points.proofs.PointLemmas.{traverse_assoc}
 use Rattle.points.proofs.ExtentLemmas.{extent-append}
 use Rattle.points.proofs.OffsetLemmas.{offset_of-at}
 use Rattle.patch.specs.Hunk.{Hunk, inverted}
 use Rattle.patch.specs.ChangeList.{IsPatch}
 use Rattle.patch.specs.Tagged.{Tagged, tagged_from, tagged, untagged, units_of}
-use Rattle.patch.specs.Fit.{StandsAt, HunkFits, Fits, offset_in, tag_from, tag, applied}
+use Rattle.patch.specs.Fit.{StandsAt, HunkFits, Fits, offset_in, tag_from, applied}
 use Rattle.patch.proofs.Pieces.{Piece, old_of, new_of, tag_of}
 use Rattle.patch.proofs.PatchPieces.{shown, hunk_between, tagged_range, taken, drop-tagged, cut_of}
 
@@ -84,15 +82,15 @@ shown_applied s ps tail s_is = ap units_of (shown_tag s [] origin ps tail s_is) 
 abbrev pub turned_piece : Piece → Piece
 turned_piece p = record { kept = p.kept; old = p.new; new = p.old }
 
-old_of_turned : (ps : List Piece) (tail : List ℕ) → old_of (map turned_piece ps) tail ≡ new_of ps tail
+pub old_of_turned : (ps : List Piece) (tail : List ℕ) → old_of (map turned_piece ps) tail ≡ new_of ps tail
 old_of_turned [] tail = refl
 old_of_turned (p ∷ ps) tail = ap (λ (xs : List ℕ). p.kept ++ (p.new ++ xs)) (old_of_turned ps tail)
 
-new_of_turned : (ps : List Piece) (tail : List ℕ) → new_of (map turned_piece ps) tail ≡ old_of ps tail
+pub new_of_turned : (ps : List Piece) (tail : List ℕ) → new_of (map turned_piece ps) tail ≡ old_of ps tail
 new_of_turned [] tail = refl
 new_of_turned (p ∷ ps) tail = ap (λ (xs : List ℕ). p.kept ++ (p.old ++ xs)) (new_of_turned ps tail)
 
-shown_turned : (a b : Point) (ps : List Piece) → map inverted (shown a b ps) ≡ shown b a (map turned_piece ps)
+pub shown_turned : (a b : Point) (ps : List Piece) → map inverted (shown a b ps) ≡ shown b a (map turned_piece ps)
 shown_turned a b [] = refl
 shown_turned a b (p ∷ ps) = ap (λ (hs : List Hunk). hunk_between (traverse b (extent p.kept)) (traverse a (extent p.kept)) p.new p.old ∷ hs)
     (shown_turned (traverse (traverse a (extent p.kept)) (extent p.old)) (traverse (traverse b (extent p.kept)) (extent p.new)) ps)

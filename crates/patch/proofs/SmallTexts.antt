@@ -1,9 +1,10 @@
 -- The gaps of runs on small texts, worked out by computing.
-use Rattle.std.proofs.Common.{◌≡◌, ℕ, List, [], ◌∷◌, refl}
+use Rattle.std.proofs.Common.{◌≡◌, ℕ, List, [], ◌∷◌, map, Some, None, refl}
 use Rattle.points.specs.declared.point.Point.{Point}
 use Rattle.patch.specs.Hunk.{Hunk}
-use Rattle.patch.specs.Tagged.{tagged, run, gaps, units_of}
+use Rattle.patch.specs.Tagged.{tagged, run, gaps}
 use Rattle.patch.specs.Fit.{tag, applied}
+use Rattle.patch.specs.Surviving.{source_at}
 
 at : ℕ → ℕ → Point
 at row column = record { row = row; column = column }
@@ -29,6 +30,10 @@ insertions_and_a_deletion_join = refl
 applied_again : applied joined (97 ∷ 98 ∷ 99 ∷ 100 ∷ 101 ∷ 102 ∷ []) ≡ 97 ∷ 88 ∷ 89 ∷ 100 ∷ 101 ∷ 102 ∷ []
 unfolding at joined
 applied_again = refl
+
+sources_again : map (source_at (tag joined (97 ∷ 98 ∷ 99 ∷ 100 ∷ 101 ∷ 102 ∷ []))) (0 ∷ 1 ∷ 2 ∷ 3 ∷ 4 ∷ 5 ∷ 6 ∷ []) ≡ Some 0 ∷ None ∷ None ∷ Some 3 ∷ Some 4 ∷ Some 5 ∷ None ∷ []
+unfolding at joined
+sources_again = refl
 
 -- changes on both sides of a row's end
 two_changes : gaps (97 ∷ 10 ∷ 98 ∷ []) (run (tagged (97 ∷ 10 ∷ 98 ∷ [])) ((0, 1, 10 ∷ []) ∷ (2, 3, 98 ∷ 99 ∷ []) ∷ []))

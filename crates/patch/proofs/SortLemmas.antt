@@ -1,16 +1,15 @@
 -- The starts of a patch's changes rise, and so do their ends, on both sides.
-use Rattle.std.proofs.Common.{◌≡◌, ℕ, suc, zero, ◌+◌, ◌-◌, ◌<◌, ◌≤◌, List, [], ◌∷◌, length, get_or, map, Bool, true, false, ◌&&◌, not, Option, Some, None, refl, sym, ap, ◌∙◌, subst, arith}
+use Rattle.std.proofs.Common.{◌≡◌, ℕ, suc, zero, ◌+◌, ◌<◌, ◌≤◌, List, [], ◌∷◌, length, get_or, true, false, ◌&&◌, not, None, arith}
 use Rattle.std.specs.List.{All}
 use Rattle.std.specs.List.Sorted.{IsPartitionedBy, IsPartitionPoint}
 use Rattle.std.proofs.lemmas.Bool.{and_parts, both_ways, false_from_ne_true, not-true, not_from_false, not-false, and_from, and_left, and_right}
-use Rattle.std.proofs.lemmas.List.Elements.{All-head, All-tail}
 use Rattle.points.specs.declared.point.Point.{Point}
 use Rattle.points.specs.Point.{origin, point_le}
 use Rattle.points.proofs.PointLemmas.{point_le_trans, point_le-refl}
-use Rattle.patch.specs.Hunk.{Hunk, hunk_of, hunks_of}
+use Rattle.patch.specs.Hunk.{hunk_of, hunks_of}
 use Rattle.patch.specs.ChangeList.{fault_at, fault_from, IsOrdered, IsPatch}
 use Rattle.patch.specs.declared.change.Change.{Change}
-use Rattle.patch.proofs.ListLemmas.{IsSound, sound_from, both_none}
+use Rattle.patch.proofs.ListLemmas.{sound_from, both_none}
 use Rattle.patch.proofs.SearchLemmas.{IsBetween}
 
 -- each range begins behind the end of the one before it, or at it

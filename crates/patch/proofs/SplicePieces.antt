@@ -1,16 +1,16 @@
 -- One replacement in a tagged text made of pieces: the pieces up to it stay, those that it covers become one, and those behind it stay.
-use Rattle.std.proofs.Common.{◌≡◌, ℕ, suc, zero, ◌+◌, ◌-◌, ◌<◌, ◌≤◌, ◌⊎◌, List, [], ◌∷◌, ◌++◌, length, take, drop, map, cond, Bool, true, false, Option, Some, None, refl, sym, ap, ◌∙◌, subst, inl, inr, arith, append_assoc, length-append, length-drop, length-take, take-append-drop}
-use Rattle.std.proofs.lemmas.List.{append-nil, drop_at, take_at, drop-drop, take-take, take_all, drop_all, length-take-le, take-append-le, drop-append-le, map-append, length-map, take-map, drop-map}
-use Rattle.std.proofs.lemmas.Bool.{cases_lt}
+use Rattle.std.proofs.Common.{◌≡◌, ℕ, suc, ◌+◌, List, [], ◌∷◌, ◌++◌, length, take, drop, map, cond, Bool, true, false, Some, None, refl, sym, ap, ◌∙◌, arith, append_assoc, length-append}
+use Rattle.std.proofs.lemmas.List.{append-nil, drop_at, take-append-le}
 use Rattle.points.specs.declared.point.Point.{Point}
 use Rattle.points.specs.Point.{origin, traverse, traversal}
 use Rattle.points.specs.Place.{extent}
 use Rattle.points.proofs.PointLemmas.{traverse_origin, traverse_assoc, traversal-traverse}
 use Rattle.points.proofs.ExtentLemmas.{extent-append}
 use Rattle.patch.specs.Hunk.{Hunk}
-use Rattle.patch.specs.Tagged.{Tagged, tagged_from, tagged, untagged, units_of, edited, gaps}
-use Rattle.patch.proofs.Pieces.{Piece, old_of, new_of, tag_of, changes_of, change_at, is_none, gaps_of_pieces}
-use Rattle.patch.proofs.PatchPieces.{take-tagged, drop-tagged, hunk_with, hunk_between, shown}
+use Rattle.patch.specs.Tagged.{Tagged, tagged_from, untagged, edited, gaps}
+use Rattle.patch.specs.Spliced.{change_at, moved_hunk}
+use Rattle.patch.proofs.Pieces.{Piece, old_of, new_of, tag_of, changes_of, is_none, AllApart, gaps_of_pieces}
+use Rattle.patch.proofs.PatchPieces.{hunk_with, hunk_between, shown}
 
 abbrev pub piece : List ℕ → List ℕ → List ℕ → Piece
 piece kept old new = record { kept = kept; old = old; new = new }
@@ -30,7 +30,7 @@ tag-append i (p ∷ f) q tail = let k : ℕ = i + length p.kept + length p.old i
     G : Tagged
     G = tag_of (i + length (p.kept ++ (p.old ++ old_of f []))) q tail
 
-tagged-append : (i : ℕ) (a b : List ℕ) → tagged_from i (a ++ b) ≡ tagged_from i a ++ tagged_from (i + length a) b
+pub tagged-append : (i : ℕ) (a b : List ℕ) → tagged_from i (a ++ b) ≡ tagged_from i a ++ tagged_from (i + length a) b
 tagged-append i [] b = ap (λ (n : ℕ). tagged_from n b) (omega arith)
 tagged-append i (u ∷ a) b = ap (λ (g : Tagged). (u, Some i) ∷ g) (tagged-append (i + 1) a b ∙ ap (λ (n : ℕ). tagged_from (i + 1) a ++ tagged_from n b) (omega arith))
 
@@ -42,7 +42,7 @@ pub length-untagged : (a : List ℕ) → length (untagged a) ≡ length a
 length-untagged [] = refl
 length-untagged (u ∷ a) = ap suc (length-untagged a)
 
-untagged-append : (a b : List ℕ) → untagged (a ++ b) ≡ untagged a ++ untagged b
+pub untagged-append : (a b : List ℕ) → untagged (a ++ b) ≡ untagged a ++ untagged b
 untagged-append [] b = refl
 untagged-append (u ∷ a) b = ap (λ (g : Tagged). (u, None) ∷ g) (untagged-append a b)
 
@@ -123,7 +123,7 @@ taken_past [] b n = let e : 0 + n ≡ n = omega arith in ap (λ (m : ℕ). take 
 taken_past (x ∷ a) b n = let e : suc (length a) + n ≡ suc (length a + n) = omega arith in ap (λ (m : ℕ). take m (x ∷ (a ++ b))) e ∙ ap (λ (g : Tagged). x ∷ g) (taken_past a b n)
 
 -- a stretch of tagged text replaced by new units: what stands before it, `pre` among it, and behind it, from `post` on
-edited_is : (before over after : Tagged) (pre post ins : List ℕ) (j size : ℕ) → j ≡ length before + length pre → length over ≡ length pre + size → take (length pre) over ≡ untagged pre
+pub edited_is : (before over after : Tagged) (pre post ins : List ℕ) (j size : ℕ) → j ≡ length before + length pre → length over ≡ length pre + size → take (length pre) over ≡ untagged pre
     → edited (before ++ (over ++ (untagged post ++ after))) j (j + size) ins ≡ before ++ (untagged (pre ++ ins ++ post) ++ after)
 edited_is before over after pre post ins j size j_is over_size begins =
     ap (λ (g : Tagged). g ++ untagged ins ++ drop (j + size) (before ++ (over ++ (untagged post ++ after)))) front_is
@@ -172,11 +172,6 @@ gaps_after s ps tail front kept pre covered covered_end size mid post rest rest_
     made : tag_of 0 (front ++ piece kept mid (pre ++ ins ++ post) ∷ rest) rest_tail ≡ tag_of 0 front [] ++ (tagged_from (0 + length (old_of front [])) kept ++ (untagged (pre ++ ins ++ post) ++ tag_of (0 + length (old_of front []) + length kept + length mid) rest rest_tail))
     made = tag-append 0 front (piece kept mid (pre ++ ins ++ post) ∷ rest) rest_tail
 
--- each piece but the first has something kept before it
-abbrev pub AllApart : List Piece → Type 0
-AllApart [] = Unit {0}
-AllApart (p ∷ ps) = (is_none p.kept ≡ false) × AllApart ps
-
 -- the changes of pieces, each by itself; none for a piece whose two texts are empty
 abbrev pub spread : Point → Point → List Piece → List Hunk
 spread a b [] = []
@@ -214,10 +209,7 @@ spread-append a b (p ∷ f) q = ap (λ (hs : List Hunk). first ++ hs) (spread-ap
     first : List Hunk
     first = change_at (traverse a (extent p.kept)) (traverse b (extent p.kept)) p.old p.new
 
--- a change moved with the place `from` in the new text that has become `to`
-abbrev pub moved_hunk : Point → Point → Hunk → Hunk
-moved_hunk from to h = hunk_with h.old_start h.old_end (traverse to (traversal h.new_start from)) (traverse to (traversal h.new_end from)) h.old_text h.new_text
-
+-- the changes of pieces behind a place that has moved
 pub shown_moved : (from to : Point) (a way : Point) (ps : List Piece) → shown a (traverse to way) ps ≡ map (moved_hunk from to) (shown a (traverse from way) ps)
 shown_moved from to a way [] = refl
 shown_moved from to a way (p ∷ ps) = ap (λ (h : Hunk). h ∷ shown a2 (traverse (traverse (traverse to way) (extent p.kept)) (extent p.new)) ps) here

@@ -1,5 +1,5 @@
 -- Which lists of changes are patches: six rules, tested at each change in turn.
-use Rattle.std.specs.Prelude.{ℕ, ◌+◌, ◌^◌, ◌==◌, ◌&&◌, ◌||◌, ◌≡◌, IsTrue, List, [], ◌∷◌, length, Bool, not, nat_lt, nat_le, if◌then◌else◌, Option, Some, None}
+use Rattle.std.specs.Prelude.{ℕ, ◌+◌, ◌^◌, ◌==◌, ◌&&◌, ◌||◌, ◌≡◌, IsTrue, List, [], ◌∷◌, length, Bool, not, nat_lt, if◌then◌else◌, Option, Some, None}
 use Rattle.std.specs.Option.{option_or}
 use Rattle.std.specs.List.{All}
 use Rattle.points.specs.declared.point.Point.{Point}

@@ -13,6 +13,7 @@ pub record Hunk : Type 0 where
   pub old_text : List ℕ
   pub new_text : List ℕ
 
+-- a change of the code, so compared
 abbrev pub hunk_of : Change → Hunk
 hunk_of c = record { old_start = c.old_range.start; old_end = c.old_range.end; new_start = c.new_range.start; new_end = c.new_range.end; old_text = c.old_text; new_text = c.new_text }
 
@@ -20,6 +21,7 @@ hunk_of c = record { old_start = c.old_range.start; old_end = c.old_range.end; n
 abbrev pub hunk_seen : ChangeView → Hunk
 hunk_seen c = record { old_start = c.old_range.start; old_end = c.old_range.end; new_start = c.new_range.start; new_end = c.new_range.end; old_text = c.old_text.now; new_text = c.new_text.now }
 
+-- a list of them
 abbrev pub hunks_of : List Change → List Hunk
 hunks_of cs = map hunk_of cs
 

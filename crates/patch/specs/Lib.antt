@@ -3,3 +3,10 @@ pub mod ChangeList
 pub mod Tagged
 pub mod Fit
 pub mod LookUp
+pub mod Surviving
+pub mod Stretches
+pub mod MovedOld
+pub mod Splicing
+pub mod Spliced
+pub mod Counted
+pub mod Joints

@@ -1,10 +1,10 @@
 -- Look-ups in a patch: which change a point belongs to, which changes a range touches, and where a point goes.
-use Rattle.std.specs.Prelude.{ℕ, ◌+◌, ◌&&◌, List, [], ◌∷◌, slice_get, count_by, Bool, if◌then◌else◌, Option, Some, None, option_and_then, option_map, unwrap_or}
+use Rattle.std.specs.Prelude.{ℕ, ◌+◌, ◌&&◌, List, [], ◌∷◌, slice_get, count_by, Bool, if◌then◌else◌, Option, Some, None, option_and_then, unwrap_or}
 use Rattle.std.specs.Option.{option_or}
 use Rattle.std.specs.List.{position_from}
 use Rattle.points.specs.declared.point.Point.{Point}
 use Rattle.points.specs.Point.{point_le, traverse, traversal}
-use Rattle.patch.specs.Hunk.{Hunk, inverted}
+use Rattle.patch.specs.Hunk.{Hunk}
 use Rattle.patch.specs.ChangeList.{is_far}
 use Rattle.patch.specs.declared.change.Run.{Run}
 

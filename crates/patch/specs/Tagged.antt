@@ -1,5 +1,5 @@
 -- Tagged text: which units of an original text survive a run of edits, and the gaps between them.
-use Rattle.std.specs.Prelude.{ℕ, ◌+◌, ◌==◌, ◌&&◌, List, [], ◌∷◌, ◌++◌, length, take, drop, map, slice_range, Bool, if◌then◌else◌, Option, Some, None}
+use Rattle.std.specs.Prelude.{ℕ, ◌+◌, ◌==◌, ◌&&◌, List, [], ◌∷◌, ◌++◌, length, take, drop, map, slice_range, if◌then◌else◌, Option, Some, None}
 use Rattle.points.specs.Place.{extent, point_at}
 use Rattle.patch.specs.Hunk.{Hunk}
 

@@ -2,13 +2,14 @@
 ghost use Rattle.std.specs.Prelude.{◌≡◌, IsTrue};
 ghost use Rattle.points.specs.Point.{origin};
 ghost use Rattle.patch.specs.Hunk.{hunk_of, hunks_of};
-ghost use Rattle.patch.specs.ChangeList.{is_far, reaches_far, is_empty_change, is_behind, has_extents, fault_at, fault_of};
+ghost use Rattle.patch.specs.ChangeList.{reaches_far, is_empty_change, is_behind, has_extents, fault_at, fault_of};
+ghost use Rattle.patch.specs.Stretches.{any_far};
 
 use crate::change::Change;
 use crate::patch::MAX_CHANGES;
-use crate::place::{at_most, has_extent, same};
+use crate::place::{at_most, has_extent, is_far, same};
 use crate::refusal::ListRefusal;
-use points::{MAX_COORD, Point, traversal};
+use points::{Point, traversal};
 
 /// The first change that breaks a rule, with the lowest rule that it breaks.
 pub(crate) fn first_fault(changes: &[Change]) -> Option<ListRefusal>
@@ -71,6 +72,18 @@ fn has_extents(old_end: Point, new_end: Point, change: &Change) -> bool
         && has_extent(change.new_text.as_slice(), traversal(new.end, new.start))
 }
 
+/// Whether a coordinate of one of the changes passes the greatest one.
+pub(crate) fn any_far(changes: &[Change]) -> bool
+    ensures { result ≡ any_far (hunks_of changes.now) }
+{
+    for each in changes {
+        if reaches_far(each) {
+            return true;
+        }
+    }
+    false
+}
+
 // Whether a coordinate of the change passes the greatest one.
 fn reaches_far(change: &Change) -> bool
     ensures { result ≡ reaches_far (hunk_of change.now) }
@@ -78,11 +91,4 @@ fn reaches_far(change: &Change) -> bool
     let old = change.old_range;
     let new = change.new_range;
     is_far(old.start) || is_far(old.end) || is_far(new.start) || is_far(new.end)
-}
-
-// Whether a coordinate of the point passes the greatest one.
-fn is_far(point: Point) -> bool
-    ensures { result ≡ is_far point }
-{
-    point.row > MAX_COORD || point.column > MAX_COORD
 }

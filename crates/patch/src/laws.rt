@@ -1,5 +1,6 @@
 //! Laws on patches: each is a function whose contract is the law.
 ghost use Rattle.std.specs.Prelude.{ℕ, List};
+ghost use Rattle.patch.specs.ChangeList.{IsPatch};
 ghost use Rattle.patch.specs.Fit.{Fits};
 
 use crate::patch::Patch;
@@ -8,6 +9,14 @@ use crate::patch::Patch;
 /// letters as reach over it.
 pub fn some_text_fits(patch: &Patch)
     ensures { (s : List ℕ) × Fits patch.now s }
+{
+    let _kept = patch.as_slice();
+}
+
+/// Every patch keeps its rules: its changes are sorted, never touch, have the extents of their
+/// ranges, are never empty, reach no further than the greatest coordinate, and aren't too many.
+pub fn rules_are_kept(patch: &Patch)
+    ensures { IsPatch patch.now }
 {
     let _kept = patch.as_slice();
 }

@@ -8,14 +8,20 @@
 mod change;
 mod check;
 mod copies;
+mod cover;
+mod joint;
 pub mod laws;
 mod lookup;
+mod old_text;
 mod patch;
-mod place;
+pub mod place;
 mod refusal;
+mod splice;
+mod stretch;
 #[cfg(test)]
 mod tests;
 
 pub use change::{Change, ChangeView, Run};
 pub use patch::{MAX_CHANGES, Patch};
-pub use refusal::ListRefusal;
+pub use refusal::{ListRefusal, PatchRefusal};
+pub use stretch::Stretch;

@@ -4,7 +4,7 @@ ghost use Rattle.points.specs.Point.{point_le};
 ghost use Rattle.patch.specs.declared.change.Change.{Change};
 ghost use Rattle.patch.specs.Hunk.{hunks_of};
 ghost use Rattle.patch.specs.ChangeList.{IsPatch};
-ghost use Rattle.patch.specs.LookUp.{change_for_old, change_for_new, changes_in_old, changes_in_new, near, moved_over};
+ghost use Rattle.patch.specs.LookUp.{change_for_old, change_for_new, changes_in_old, changes_in_new, near, moved_over, to_new, to_old};
 
 use crate::change::{Change, Run};
 use crate::place::{at_most, leads_within, traverse_near};
@@ -67,8 +67,36 @@ fn run_between(first: usize, stop: usize) -> Run
     }
 }
 
+/// Where a point of the old text stands in the new one.
+pub(crate) fn to_new(changes: &[Change], point: Point) -> Option<Point>
+    requires { IsPatch (hunks_of changes.now) }
+    ensures { result ≡ to_new (hunks_of changes.now) point }
+{
+    match change_for_old(changes, point) {
+        None => near(point),
+        Some(at) => {
+            let change = &changes[at];
+            moved_over(point, change.old_range, change.new_range)
+        }
+    }
+}
+
+/// Where a point of the new text stands in the old one.
+pub(crate) fn to_old(changes: &[Change], point: Point) -> Option<Point>
+    requires { IsPatch (hunks_of changes.now) }
+    ensures { result ≡ to_old (hunks_of changes.now) point }
+{
+    match change_for_new(changes, point) {
+        None => near(point),
+        Some(at) => {
+            let change = &changes[at];
+            moved_over(point, change.new_range, change.old_range)
+        }
+    }
+}
+
 /// Where a point goes that stands at the start of a replaced range, or behind it.
-pub(crate) fn moved_over(point: Point, from: Range, to: Range) -> Option<Point>
+fn moved_over(point: Point, from: Range, to: Range) -> Option<Point>
     requires { IsTrue (point_le from.start point) }
     ensures { result ≡ near (moved_over from.start from.end to.start to.end point) }
 {
@@ -84,7 +112,7 @@ pub(crate) fn moved_over(point: Point, from: Range, to: Range) -> Option<Point>
 }
 
 /// The point, where no coordinate passes the greatest one.
-pub(crate) fn near(point: Point) -> Option<Point>
+fn near(point: Point) -> Option<Point>
     ensures { result ≡ near point }
 {
     if point.row > MAX_COORD || point.column > MAX_COORD {

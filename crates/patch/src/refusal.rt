@@ -1,3 +1,7 @@
+ghost use Rattle.std.specs.Prelude.{◌≡◌};
+ghost use Rattle.patch.specs.declared.refusal.PatchRefusal.TheVariants.{NoMemory as no_memory};
+
+use points::NoMemory;
 use thiserror::Error;
 
 /// Why a list of changes is no patch: the lowest rule that it breaks, at the first index where it
@@ -26,4 +30,26 @@ pub enum ListRefusal {
     /// There was no memory for it.
     #[error("out of memory")]
     NoMemory,
+}
+
+/// Why a patch isn't changed.
+#[derive(Clone, Copy, Debug, PartialEq, Eq, Error)]
+pub enum PatchRefusal {
+    /// A coordinate of the result would pass [`MAX_COORD`](points::MAX_COORD).
+    #[error("a change would reach too far")]
+    TooFar,
+    /// The result would have more than [`MAX_CHANGES`](crate::MAX_CHANGES) changes.
+    #[error("there would be too many changes")]
+    TooMany,
+    /// There was no memory for it.
+    #[error("out of memory")]
+    NoMemory,
+}
+
+impl From<NoMemory> for PatchRefusal {
+    ghost from_gives = { λ _ refusal. refusal ≡ no_memory };
+
+    fn from(_refusal: NoMemory) -> Self {
+        PatchRefusal::NoMemory
+    }
 }

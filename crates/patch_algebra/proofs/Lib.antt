@@ -1,2 +1,5 @@
 pub mod FitLemmas
 pub mod ApplyLemmas
+pub mod MergeSteps
+pub mod MergeLemmas
+mod ComposedRows

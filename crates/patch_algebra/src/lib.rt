@@ -1,12 +1,17 @@
-//! Patches as functions on texts: where one fits, and what it makes of the text.
+//! Patches as functions on texts: where one fits, what it makes of the text, and the patch of two
+//! in turn.
 #![tactic(auto)]
 
+mod composition;
 mod fit;
+pub mod laws;
+mod middle;
 mod new_text;
 mod refusal;
 #[cfg(test)]
 mod tests;
 
+pub use composition::compose;
 pub use fit::fits;
 pub use new_text::apply;
 pub use refusal::ApplyRefusal;

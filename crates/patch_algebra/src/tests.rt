@@ -1,18 +1,12 @@
-ghost use Rattle.std.specs.Prelude.{◌≡◌};
-ghost use Rattle.points.specs.Point.{point_le};
+mod runs;
 
-use crate::{ApplyRefusal, apply, fits};
+use crate::{ApplyRefusal, apply, compose, fits};
 use line_text::LineText;
+use patch::place::at_most;
 use patch::{Change, Patch};
 use points::{Point, Range, Units};
 use std::alloc::Global;
 use std::test::Fail;
-
-fn at_most(a: Point, b: Point) -> bool
-    ensures { result ≡ point_le a b }
-{
-    a.row < b.row || (a.row == b.row && a.column <= b.column)
-}
 
 // The range with these columns of the first row.
 fn range(from: u32, to: u32) -> Result<Range, Fail> {
@@ -103,5 +97,86 @@ fn inverse_gives_the_text_back(rt: HostRuntime) -> Result<(), Fail> {
     let again = apply(alloc, &back, &made)?.to_text()?;
     assert_eq!(rt; made.to_text()?.as_str(), "aXYdeg");
     assert_eq!(rt; again.as_str(), "abcdefg");
+    Ok(())
+}
+
+// A patch with one change of the first row.
+fn one_change(alloc: Global, from: Range, old: &str, to: Range, new: &str) -> Result<Patch, Fail> {
+    let mut list = Vec::new(alloc);
+    list.push(change(alloc, from, old, to, new)?)?;
+    Ok(Patch::from_changes(list)?)
+}
+
+// The patch of both in turn, where a text fits the first and what it makes of that fits the second.
+fn composed_on(
+    alloc: Global,
+    first: &Patch,
+    second: &Patch,
+    text: &LineText,
+) -> Result<Patch, Fail> {
+    let between = apply(alloc, first, text)?;
+    if fits(second, &between) {
+        return Ok(compose(alloc, first, second)?);
+    }
+    Ok(Err("the text between doesn't fit the second patch")?)
+}
+
+// The change has these columns of the first row and these texts.
+fn is_change(
+    alloc: Global,
+    patch: &Patch,
+    index: usize,
+    old: Range,
+    old_text: &str,
+    new: Range,
+    new_text: &str,
+) -> Result<bool, Fail> {
+    let Some(change) = patch.change(index) else {
+        return Ok(false);
+    };
+    let old_units = Units::from_str(alloc, old_text)?;
+    let new_units = Units::from_str(alloc, new_text)?;
+    Ok(
+        change.old_range == old
+            && change.new_range == new
+            && change.old_text == old_units.as_slice()
+            && change.new_text == new_units.as_slice(),
+    )
+}
+
+#[test]
+fn insertion_and_its_deletion_compose_to_nothing(rt: HostRuntime) -> Result<(), Fail> {
+    let alloc = rt.alloc();
+    let text = LineText::from_str(alloc, "abc")?;
+    let first = one_change(alloc, range(1, 1)?, "", range(1, 2)?, "X")?;
+    let second = one_change(alloc, range(1, 2)?, "X", range(1, 1)?, "")?;
+    let both = composed_on(alloc, &first, &second, &text)?;
+    assert_eq!(rt; both.count(), 0);
+    Ok(())
+}
+
+#[test]
+fn insertion_beside_another_joins_it(rt: HostRuntime) -> Result<(), Fail> {
+    let alloc = rt.alloc();
+    let text = LineText::from_str(alloc, "abc")?;
+    let first = one_change(alloc, range(1, 1)?, "", range(1, 2)?, "X")?;
+    let second = one_change(alloc, range(2, 2)?, "", range(2, 3)?, "Y")?;
+    let both = composed_on(alloc, &first, &second, &text)?;
+    assert_eq!(rt; both.count(), 1);
+    assert!(rt; is_change(alloc, &both, 0, range(1, 1)?, "", range(1, 3)?, "XY")?);
+    Ok(())
+}
+
+#[test]
+fn deletion_across_changes_joins_them(rt: HostRuntime) -> Result<(), Fail> {
+    let alloc = rt.alloc();
+    let text = LineText::from_str(alloc, "abcdefgh")?;
+    let first = two_changes(alloc)?;
+    let second = one_change(alloc, range(2, 6)?, "Ydeg", range(2, 3)?, "Z")?;
+    let both = composed_on(alloc, &first, &second, &text)?;
+    assert_eq!(rt; both.count(), 1);
+    assert!(rt; is_change(alloc, &both, 0, range(1, 7)?, "bcdefg", range(1, 3)?, "XZ")?);
+    let made = apply(alloc, &both, &text)?.to_text()?;
+    assert_eq!(rt; made.as_str(), "aXZh");
     Ok(())
 }

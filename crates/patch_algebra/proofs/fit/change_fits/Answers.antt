@@ -1,6 +1,5 @@
-use Rattle.std.proofs.Common.{◌≡◌, ◌∙◌, Some, sym}
+use Rattle.std.proofs.Common.{◌∙◌, sym}
 use Rattle.std.specs.Cmp.Lexicographic.{told_text}
-use Rattle.points.specs.Place.{offset_of}
 use Rattle.patch.specs.Hunk.{hunk_seen}
 use Rattle.patch_algebra.proofs.FitLemmas.{no_start, no_end, crossed, fits_not, fits_if_equal, end_within}
 use Rattle.patch_algebra.proofs.fit.change_fits.Goals as goal

@@ -1,6 +1,6 @@
 use Rattle.std.proofs.Common.{◌≡◌, ◌∙◌, List, map, sym, ap, subst}
 use Rattle.points.specs.Point.{origin}
-use Rattle.patch.specs.Hunk.{Hunk, hunks_of, inverted}
+use Rattle.patch.specs.Hunk.{hunks_of, inverted}
 use Rattle.patch.specs.ChangeList.{IsPatch}
 use Rattle.patch.specs.declared.change.Change.{Change}
 use Rattle.patch.proofs.ListLemmas.{inverted_list, inverted_ordered}

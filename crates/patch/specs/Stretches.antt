@@ -1,0 +1,74 @@
+-- Stretches of an old text, one behind the other: how far the text stays, and what is taken out and put in behind that.
+use Rattle.std.specs.Prelude.{ℕ, ◌-◌, ◌^◌, ◌==◌, ◌&&◌, ◌||◌, ◌≡◌, ◌<◌, IsTrue, List, [], ◌∷◌, ◌++◌, length, map, min, nat_lt, Bool, false, if◌then◌else◌}
+use Rattle.points.specs.declared.point.Point.{Point}
+use Rattle.points.specs.Point.{origin, traverse, traversal}
+use Rattle.points.specs.Place.{extent, same_point}
+use Rattle.patch.specs.Hunk.{Hunk}
+use Rattle.patch.specs.ChangeList.{reaches_far}
+use Rattle.patch.specs.declared.stretch.Stretch.{Stretch}
+use Rattle.patch.specs.declared.stretch.Open.{Open}
+use Rattle.patch.specs.declared.refusal.PatchRefusal.{PatchRefusal}
+use Rattle.patch.specs.declared.refusal.PatchRefusal.TheVariants.{TooFar, TooMany, NoMemory}
+
+-- a stretch: the extent of what stays, and behind it the units taken out and those put in
+pub record Part : Type 0 where
+  pub kept : Point
+  pub old_text : List ℕ
+  pub new_text : List ℕ
+
+-- what a lent stretch shows
+abbrev pub part_seen : Stretch → Part
+part_seen s = record { kept = s.kept; old_text = s.old_text.now; new_text = s.new_text.now }
+
+abbrev pub parts_seen : List Stretch → List Part
+parts_seen ss = map part_seen ss
+
+-- the point, or the farthest one that coordinates can name on its row, or at all where its row can't be named
+abbrev pub capped : Point → Point
+capped p = if nat_lt (2 ^ 32 - 1) p.row then record { row = 2 ^ 32 - 1; column = 2 ^ 32 - 1 } else record { row = p.row; column = min p.column (2 ^ 32 - 1) }
+
+-- where such a point leads over an extent
+abbrev pub traverse_capped : Point → Point → Point
+traverse_capped a b = capped (traverse a b)
+
+-- the change with these texts that starts at these points; none where both texts are empty. `go` leads from a point over an extent
+abbrev pub change_by : (Point → Point → Point) → Point → Point → List ℕ → List ℕ → List Hunk
+change_by go a b old new = if (length old == 0) && (length new == 0) then [] else record {
+  old_start = a;
+  old_end = go a (extent old);
+  new_start = b;
+  new_end = go b (extent new);
+  old_text = old;
+  new_text = new;
+} ∷ []
+
+-- the changes that stretches make behind one that is still open: it starts at these points and has these texts so far,
+-- and a stretch joins it where nothing stays between
+abbrev pub laid_by : (Point → Point → Point) → Point → Point → List ℕ → List ℕ → List Part → List Hunk
+laid_by go a b old new [] = change_by go a b old new
+laid_by go a b old new (p ∷ ps) = if same_point p.kept origin then laid_by go a b (old ++ p.old_text) (new ++ p.new_text) ps
+    else change_by go a b old new ++ laid_by go (go (go a (extent old)) p.kept) (go (go b (extent new)) p.kept) p.old_text p.new_text ps
+
+-- the changes that stretches make behind an open change
+abbrev pub laid_behind : Open → List Part → List Hunk
+laid_behind c ps = laid_by traverse_capped c.old_start c.new_start c.old_text c.new_text ps
+
+-- the changes that stretches make: those with nothing between are one, and those with no texts are none
+abbrev pub laid : List Part → List Hunk
+laid ps = laid_by traverse origin origin [] [] ps
+
+-- the stretches of changes, the first behind the point a of the old text
+abbrev pub parts_of : Point → List Hunk → List Part
+parts_of a [] = []
+parts_of a (h ∷ hs) = record { kept = traversal h.old_start a; old_text = h.old_text; new_text = h.new_text } ∷ parts_of h.old_end hs
+
+-- a coordinate of one of the changes passes the greatest one
+abbrev pub any_far : List Hunk → Bool
+any_far [] = false
+any_far (h ∷ hs) = reaches_far h || any_far hs
+
+-- why there is no patch with these changes; want of memory has no cause
+abbrev pub Refuses : List Hunk → PatchRefusal → Type 0
+Refuses hs TooFar = IsTrue (any_far hs)
+Refuses hs TooMany = (any_far hs ≡ false) × (2 ^ 24 < length hs)
+Refuses hs NoMemory = Unit {0}

@@ -1,0 +1,77 @@
+//! What is kept of a patch when its old text changes underneath.
+ghost use Rattle.std.specs.Prelude.{◌≡◌, ◌≤◌, ◌^◌, IsTrue, IfOk, IfSome, option_map};
+ghost use Rattle.points.specs.Point.{origin, point_le, traversal, IsWithin};
+ghost use Rattle.patch.specs.Hunk.{hunks_of};
+ghost use Rattle.patch.specs.ChangeList.{IsPatch};
+ghost use Rattle.patch.specs.Stretches.{parts_seen, parts_of};
+ghost use Rattle.patch.specs.MovedOld.{kept_of, kept_start, moved_with};
+
+use crate::change::Change;
+use crate::place::{at_most, traverse_capped};
+use crate::stretch::Stretch;
+use points::{NoMemory, Point, Range, traversal};
+use std::alloc::Global;
+
+/// The changes that are kept where the old text's range from `start` up to `old_end` becomes one
+/// up to `new_end`, as stretches of the old text after that.
+pub(crate) fn kept_stretches<'a>(
+    alloc: Global,
+    changes: &'a [Change],
+    start: Point,
+    old_end: Point,
+    new_end: Point,
+) -> Result<Vec<Stretch<'a>>, NoMemory>
+    requires patch { IsPatch (hunks_of changes.now) }
+    requires from_start { IsTrue (point_le start old_end) }
+    requires to_start { IsTrue (point_le start new_end) }
+    requires near { IsWithin (2 ^ 30) new_end }
+    ensures { IfOk result (λ kept. parts_seen kept.items ≡ parts_of origin (kept_of start old_end new_end (hunks_of changes.now))) }
+{
+    let mut kept = Vec::with_capacity(alloc, changes.len())?;
+    let mut end = Point { row: 0, column: 0 };
+    for change in changes {
+        let Some(range) = kept_range(change.old_range, start, old_end, new_end) else {
+            continue;
+        };
+        kept.push(Stretch {
+            kept: traversal(range.start, end),
+            old_text: change.old_text.as_slice(),
+            new_text: change.new_text.as_slice(),
+        })?;
+        end = range.end;
+    }
+    Ok(kept)
+}
+
+// The old range of a kept change: one that ends at `start` or before it stays, else one that starts
+// at `old_end` or behind it moves.
+fn kept_range(range: Range, start: Point, old_end: Point, new_end: Point) -> Option<Range>
+    requires near_start { IsWithin (2 ^ 30) range.start }
+    requires near_end { IsWithin (2 ^ 30) range.end }
+    requires near { IsWithin (2 ^ 30) new_end }
+    ensures start { option_map (λ kept. kept.start) result ≡ kept_start start old_end new_end range.start range.end }
+    ensures reach { IfSome result (λ kept. traversal kept.end kept.start ≡ traversal range.end range.start) }
+{
+    if at_most(range.end, start) {
+        return Some(range);
+    }
+    if !at_most(old_end, range.start) {
+        return None;
+    }
+    Some(moved_range(range, old_end, new_end))
+}
+
+// A range at `old_end` or behind it, moved as `old_end` moves to `new_end`.
+fn moved_range(range: Range, old_end: Point, new_end: Point) -> Range
+    requires behind { IsTrue (point_le old_end range.start) }
+    requires near_start { IsWithin (2 ^ 30) range.start }
+    requires near_end { IsWithin (2 ^ 30) range.end }
+    requires near { IsWithin (2 ^ 30) new_end }
+    ensures start { result.start ≡ moved_with old_end new_end range.start }
+    ensures reach { traversal result.end result.start ≡ traversal range.end range.start }
+{
+    Range::new(
+        traverse_capped(new_end, traversal(range.start, old_end)),
+        traverse_capped(new_end, traversal(range.end, old_end)),
+    )
+}
