@@ -1,2 +1,3 @@
 pub mod Input
 pub mod Run
+pub mod Exit

@@ -8,8 +8,8 @@ use Rattle.script.specs.declared.command.Script.{Script}
 use Rattle.script.specs.declared.reply.Transcript.{Transcript}
 use Rattle.script.specs.declared.refusal.ScriptRule.{ScriptRule}
 use Rattle.script.specs.Machine.{opening_units}
-use Rattle.script.specs.ScriptDocument.{script_in, script_place}
-use Rattle.script.specs.TranscriptDocument.{transcript_text}
+use Rattle.script.specs.ScriptDocument.{document, script_in, script_place}
+use Rattle.script.specs.TranscriptDocument.{transcript_value, transcript_text}
 use Rattle.script.specs.Lawful.{IsLawful}
 use Rattle.buffer_cli.specs.declared.status.Status.{Status}
 use Rattle.buffer_cli.specs.declared.status.Status.TheVariants as status
@@ -21,13 +21,14 @@ is_run_line [] = false
 is_run_line (word ∷ []) = bytes_eq (string_bytes word) (codes "run")
 is_run_line (word ∷ second ∷ rest) = false
 
--- The bytes are a script's, and the text is that of a transcript that is lawful for it.
+-- The bytes are a script's, and the text is that of a transcript that is lawful for it, whose JSON value the text has.
 pub record IsAnswer (bytes text : List ℕ) : Type 0 where
   pub script : Script
   pub read : script_in bytes ≡ Some script
   pub transcript : Transcript
   pub lawful : IsLawful script (opening_units script.opening) transcript
   pub written : text ≡ transcript_text transcript
+  pub reads_back : document text ≡ Some (transcript_value transcript)
 
 -- the source was read to its end, within the limit
 abbrev pub IsWhole : List ℕ → Option (List ℕ) → Type 0

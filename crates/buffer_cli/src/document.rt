@@ -3,8 +3,8 @@ ghost use Rattle.points.specs.Text.{utf16_of, text_of};
 ghost use Rattle.script.specs.Machine.{max_units, opened, edit, text as look, step, shown};
 
 use line_text::{LineText, TextRefusal, splits_pair};
-use points::{NoMemory, Range};
-use script::{CallRefusal, HitCounts, Reply, Text};
+use points::{HitCounts, NoMemory, Range};
+use script::{CallRefusal, Reply, Text};
 use std::alloc::Global;
 use std::marker::Model;
 

@@ -1,3 +1,7 @@
+ghost use Rattle.std.specs.Prelude.{◌≡◌, ◌↔◌, None, IfSome};
+ghost use Rattle.buffer_cli.specs.Exit.{exit_code};
+ghost use Rattle.buffer_cli.specs.declared.status.Status.TheVariants.{Done};
+
 use script::ScriptRule;
 use std::fmt;
 
@@ -27,7 +31,9 @@ pub enum Status {
 
 impl Status {
     /// The exit status of the program.
-    pub fn code(self) -> u8 {
+    pub fn code(self) -> u8
+        ensures { result ≡ exit_code self }
+    {
         match self {
             Status::Done => 0,
             Status::Usage => 2,
@@ -40,7 +46,10 @@ impl Status {
     }
 
     /// What the program prints on standard error, if anything.
-    pub fn fault_line(self) -> Option<Fault> {
+    pub fn fault_line(self) -> Option<Fault>
+        ensures none { (result ≡ None) ↔ (self ≡ Done) }
+        ensures some { IfSome result (λ fault. fault.status ≡ self) }
+    {
         match self {
             Status::Done => None,
             status => Some(Fault { status }),

@@ -1,5 +1,6 @@
 pub mod PlainRuns
 pub mod OneSession
+pub mod OnlyPlain
 pub mod Counting
 pub mod Loops
 pub mod Whole
@@ -12,3 +13,4 @@ pub mod KeyOrder
 pub mod ScriptExact
 pub mod Apart
 pub mod TextsApart
+pub mod ReadBack

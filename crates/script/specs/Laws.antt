@@ -18,3 +18,7 @@ plain_transcript opening commands = record {
 -- that transcript is lawful
 abbrev pub PlainIsLawful : Type 0
 PlainIsLawful = (script : Script) (opening : List ℕ) (commands : List Command) → script.sessions ≡ commands ∷ [] → IsLawful script opening (plain_transcript opening commands)
+
+-- and no other transcript of that script is
+abbrev pub OnlyPlainIsLawful : Type 0
+OnlyPlainIsLawful = (script : Script) (opening : List ℕ) (commands : List Command) (t : Transcript) → script.sessions ≡ commands ∷ [] → IsLawful script opening t → t ≡ plain_transcript opening commands

@@ -8,7 +8,7 @@ use Rattle.script.specs.declared.command.Command.TheVariants as command
 use Rattle.script.specs.declared.command.Opening.{Opening}
 use Rattle.script.specs.declared.command.Opening.TheVariants as opening
 use Rattle.script.specs.declared.reply.CallRefusal.TheVariants.{TooLong}
-use Rattle.script.specs.declared.reply.HitCounts.{HitCounts}
+use Rattle.points.specs.declared.mark.HitCounts.{HitCounts}
 use Rattle.script.specs.declared.reply.Reply.{Reply}
 use Rattle.script.specs.declared.reply.Reply.TheVariants as reply
 

@@ -3,7 +3,7 @@ use Rattle.std.specs.Prelude.{ℕ, List, [], ◌∷◌, ◌++◌, codes}
 use Rattle.points.specs.declared.point.Point.{Point}
 use Rattle.script.specs.declared.reply.CallRefusal.{CallRefusal}
 use Rattle.script.specs.declared.reply.CallRefusal.TheVariants.{TooLong}
-use Rattle.script.specs.declared.reply.HitCounts.{HitCounts}
+use Rattle.points.specs.declared.mark.HitCounts.{HitCounts}
 use Rattle.script.specs.declared.reply.Reply.{Reply}
 use Rattle.script.specs.declared.reply.Reply.TheVariants as reply
 use Rattle.script.specs.declared.reply.TranscriptEnd.{TranscriptEnd}

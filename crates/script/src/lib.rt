@@ -21,7 +21,7 @@ mod write;
 pub use command::{Command, Opening, Script};
 pub use read::read_script;
 pub use refusal::{ScriptRefusal, ScriptRule};
-pub use reply::{CallRefusal, HitCounts, Reply, Transcript, TranscriptEnd};
+pub use reply::{CallRefusal, Reply, Transcript, TranscriptEnd};
 pub use sequence::Sequence;
 pub use text::Text;
 pub use write::transcript_bytes;

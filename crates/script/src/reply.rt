@@ -1,21 +1,12 @@
 use crate::sequence::Sequence;
 use crate::text::Text;
-use points::Point;
+use points::{HitCounts, Point};
 
 /// Why a numbered call was refused.
 #[derive(Clone, Copy, Debug, PartialEq, Eq)]
 pub enum CallRefusal {
     /// The text would have more than 2^24 UTF-16 units.
     TooLong,
-}
-
-/// How many marks a change touched, in each of the four senses.
-#[derive(Clone, Copy, Debug, PartialEq, Eq)]
-pub struct HitCounts {
-    pub touch: u32,
-    pub inside: u32,
-    pub overlap: u32,
-    pub surround: u32,
 }
 
 /// What was answered to one command. `at` is the number of the call.

@@ -1,5 +1,5 @@
 use crate::*;
-use points::{NoMemory, Point};
+use points::{HitCounts, NoMemory, Point};
 use std::alloc::{AllocError, Global};
 use std::test::Fail;
 

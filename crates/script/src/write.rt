@@ -1,11 +1,12 @@
 //! From a transcript to its text.
-ghost use Rattle.std.specs.Prelude.{◌≡◌, IfOk};
+ghost use Rattle.std.specs.Prelude.{◌≡◌, Some, IfOk};
 ghost use Rattle.serde_json.specs.View.{view, items_view};
+ghost use Rattle.script.specs.ScriptDocument.{document};
 ghost use Rattle.script.specs.TranscriptDocument.{point_value, hits_value, refusal_word, reply_value, replies_items, sessions_items, end_value, transcript_value, transcript_text};
 
-use crate::reply::{CallRefusal, HitCounts, Reply, Transcript, TranscriptEnd};
+use crate::reply::{CallRefusal, Reply, Transcript, TranscriptEnd};
 use crate::sequence::Sequence;
-use points::{NoMemory, Point};
+use points::{HitCounts, NoMemory, Point};
 use serde_json::{Value, json};
 use std::alloc::{AllocError, Global};
 
@@ -110,9 +111,10 @@ fn transcript_value(alloc: Global, transcript: &Transcript) -> Result<Value, All
     json!(in alloc; {"end": end, "sessions": sessions, "version": transcript.version})
 }
 
-/// The text of a transcript: its compact JSON text, and one line feed.
+/// The text of a transcript: its compact JSON text, and one line feed. It reads back as the transcript's value.
 pub fn transcript_bytes(alloc: Global, transcript: &Transcript) -> Result<Vec<u8>, NoMemory>
-    ensures { IfOk result (λ b. b.items ≡ transcript_text transcript.now) }
+    ensures text { IfOk result (λ b. b.items ≡ transcript_text transcript.now) }
+    ensures reads_back { IfOk result (λ b. document b.items ≡ Some (transcript_value transcript.now)) }
 {
     let value = transcript_value(alloc, transcript)?;
     let mut bytes = value.to_vec(alloc)?;

@@ -1,0 +1,134 @@
+-- The text of a transcript reads back as the transcript's value.
+use Rattle.std.proofs.Common.{◌≡◌, ◌≤◌, ℕ, List, [], ◌∷◌, ◌++◌, Bool, true, false, cond, ◌&&◌, Some, option_and_then, IsUtf8, refl, sym, ap, ap₂, ◌∙◌, arith, append_assoc, append-nil, subst}
+use Rattle.std.proofs.lemmas.Str.{IsUtf8-append}
+use Rattle.json.specs.Token.{Token, begin_object, end_object, begin_array, end_array, key, string, number, boolean, null, bad}
+use Rattle.json.specs.Word.{ends_word, word}
+use Rattle.json.specs.Lex.{Lexeme, token, comma, colon, string_token, lex, between, fresh, punctuate, tokens}
+use Rattle.json.specs.Json as json
+use Rattle.json.specs.Print.{escape, quoted, token_text, begins, ends, separator, print_from, print, IsPrintable, ArePrintable}
+use Rattle.json.specs.Tree as tree
+use Rattle.json.proofs.Numbered.{ArePrintableOrBad-tokens, value-HasNumbers}
+use Rattle.json.proofs.Printed.Numbers.{lex-number, in_word-ended}
+use Rattle.json.proofs.Printed.Strings.{content-escape, lex-escape}
+use Rattle.json.proofs.Printed.Trees.{value-json_tokens, ArePrintable-json_tokens}
+use Rattle.json.proofs.Printed.Utf8.{IsUtf8-are_ascii}
+use Rattle.script.specs.declared.reply.Reply.{Reply}
+use Rattle.script.specs.declared.reply.Reply.TheVariants as reply
+use Rattle.script.specs.declared.reply.Transcript.{Transcript}
+use Rattle.script.specs.ScriptDocument.{document}
+use Rattle.script.specs.TranscriptDocument.{reply_value, replies_items, sessions_items, transcript_value}
+use Rattle.script.proofs.Documents.{document_is}
+use Rattle.serde_json.specs.Data.{Data, depth, items_depth}
+use Rattle.serde_json.specs.Read.{read, max_depth, of_json}
+use Rattle.serde_json.specs.Written.{IsInOrder}
+
+-- ---- how deep the value of a transcript is
+
+reply_value-depth : (r : Reply) → depth (reply_value r) ≤ 2
+reply_value-depth (reply.Edited at end from hits to) = omega arith
+reply_value-depth (reply.Text at text units) = omega arith
+reply_value-depth (reply.Refused at refusal) = omega arith
+
+replies_items-depth : (rs : List Reply) → items_depth (replies_items rs) ≤ 2
+replies_items-depth [] = omega arith
+replies_items-depth (r ∷ rs) = omega (arith, reply_value-depth r, replies_items-depth rs)
+
+sessions_items-depth : (sessions : List (List Reply)) → items_depth (sessions_items sessions) ≤ 3
+sessions_items-depth [] = omega arith
+sessions_items-depth (rs ∷ rest) = omega (arith, replies_items-depth rs, sessions_items-depth rest)
+
+transcript_value-depth : (t : Transcript) → depth (transcript_value t) ≤ max_depth
+transcript_value-depth t = omega (arith, sessions_items-depth t.sessions)
+
+-- ---- a printed text has the same lexemes with white space behind it
+
+read_quoted : (s r : List ℕ) → lex between (quoted s ++ r) ≡ token (string s) ∷ lex between r
+unfolding lex
+read_quoted s r =
+    ap (λ l. lex between (34 ∷ l)) (append_assoc (escape s) (34 ∷ []) r)
+    ∙ ap₂ (λ o l. token (string_token o) ∷ l) (content-escape s r) (lex-escape s r)
+
+-- The lexemes of a token are the same before any text; one that ends a value needs a text that ends a word.
+read_token : (t : Token) → IsPrintable t → (ls : List Lexeme) × ((r : List ℕ) → (ends t ≡ true → ends_word r ≡ true) → lex between (token_text t ++ r) ≡ ls ++ lex between r)
+unfolding lex word
+read_token begin_object h = (token begin_object ∷ [], λ r ended. refl)
+read_token end_object h = (token end_object ∷ [], λ r ended. refl)
+read_token begin_array h = (token begin_array ∷ [], λ r ended. refl)
+read_token end_array h = (token end_array ∷ [], λ r ended. refl)
+read_token (key s) h = (token (string s) ∷ colon ∷ [], λ r ended. ap (lex between) (append_assoc (quoted s) (58 ∷ []) r) ∙ read_quoted s (58 ∷ r))
+read_token (string s) h = (token (string s) ∷ [], λ r ended. read_quoted s r)
+read_token (number s) h = (token (number s) ∷ [], λ r ended. lex-number s r h (ended refl))
+read_token (boolean true) h = (token (boolean true) ∷ [], λ r ended. ap₂ (λ b l. token (cond b (boolean true) bad) ∷ l) (ended refl) (in_word-ended r (ended refl)))
+read_token (boolean false) h = (token (boolean false) ∷ [], λ r ended. ap₂ (λ b l. token (cond b (boolean false) bad) ∷ l) (ended refl) (in_word-ended r (ended refl)))
+read_token null h = (token null ∷ [], λ r ended. ap₂ (λ b l. token (cond b null bad) ∷ l) (ended refl) (in_word-ended r (ended refl)))
+read_token bad h = absurd h
+
+-- after a value stands a comma, a closing bracket or the text behind
+after_value_ends : (ts : List Token) (r : List ℕ) → ends_word r ≡ true → ends_word (print_from true ts ++ r) ≡ true
+unfolding print_from
+after_value_ends [] r e = e
+after_value_ends (begin_object ∷ ts) r e = refl
+after_value_ends (end_object ∷ ts) r e = refl
+after_value_ends (begin_array ∷ ts) r e = refl
+after_value_ends (end_array ∷ ts) r e = refl
+after_value_ends (key s ∷ ts) r e = refl
+after_value_ends (string s ∷ ts) r e = refl
+after_value_ends (number s ∷ ts) r e = refl
+after_value_ends (boolean b ∷ ts) r e = refl
+after_value_ends (null ∷ ts) r e = refl
+after_value_ends (bad ∷ ts) r e = refl
+
+regroup : (a b c r : List ℕ) → (a ++ (b ++ c)) ++ r ≡ a ++ (b ++ (c ++ r))
+regroup a b c r = simp append_assoc
+
+-- r and s may stand behind a printed text, and both end a word and have the same lexemes
+module _ (r s : List ℕ) (first : ends_word r ≡ true) (second : ends_word s ≡ true) (same : lex between r ≡ lex between s) where
+  separator_alike : (b : Bool) (x y : List ℕ) → lex between x ≡ lex between y → lex between (cond b (44 ∷ []) [] ++ x) ≡ lex between (cond b (44 ∷ []) [] ++ y)
+  unfolding lex
+  separator_alike true x y e = ap (λ l. comma ∷ l) e
+  separator_alike false x y e = e
+
+  print_alike : (c : Bool) (ts : List Token) → ArePrintable ts → lex between (print_from c ts ++ r) ≡ lex between (print_from c ts ++ s)
+  unfolding print_from ArePrintable
+  print_alike c [] h = same
+  print_alike c (t ∷ ts) h =
+      let p = print_from (ends t) ts in
+      let one = read_token t h.0 in
+      let before : lex between (token_text t ++ (p ++ r)) ≡ one.0 ++ lex between (p ++ r) = one.1 (p ++ r) (λ e. ap (λ b. ends_word (print_from b ts ++ r)) e ∙ after_value_ends ts r first) in
+      let after : lex between (token_text t ++ (p ++ s)) ≡ one.0 ++ lex between (p ++ s) = one.1 (p ++ s) (λ e. ap (λ b. ends_word (print_from b ts ++ s)) e ∙ after_value_ends ts s second) in
+      ap (lex between) (regroup (separator c t) (token_text t) p r)
+      ∙ separator_alike (c && begins t) _ _ (before ∙ ap (λ l. one.0 ++ l) (print_alike (ends t) ts h.1) ∙ sym after)
+      ∙ sym (ap (lex between) (regroup (separator c t) (token_text t) p s))
+
+-- ---- a written text has the same tokens with a line feed behind it
+
+-- the tokens of a text are printable where they are those of a JSON value, since the lexer lets only numbers through as numbers
+printable : (text : List ℕ) (j : json.Json) → tokens text ≡ tree.json_tokens j → ArePrintable (tokens text)
+printable text j e =
+    let parsed = ap (json.value (tree.depth j)) (e ∙ sym (append-nil (tree.json_tokens j))) ∙ value-json_tokens j (tree.depth j) [] (omega arith) in
+    subst ArePrintable (sym e) (ArePrintable-json_tokens j (value-HasNumbers (tree.depth j) (tokens text) [] j (ArePrintableOrBad-tokens text) parsed))
+
+line_feed_lexes : lex between (10 ∷ []) ≡ lex between []
+unfolding lex
+line_feed_lexes = refl
+
+tokens-line_feed : (text : List ℕ) (j : json.Json) → text ≡ print (tokens text) → tokens text ≡ tree.json_tokens j → tokens (text ++ 10 ∷ []) ≡ tokens text
+tokens-line_feed text j written e =
+    let p = print (tokens text) in
+    ap (punctuate fresh)
+    (ap (λ t. lex between (t ++ 10 ∷ [])) written ∙ print_alike (10 ∷ []) [] refl refl line_feed_lexes false (tokens text) (printable text j e)
+    ∙ ap (lex between) (append-nil p ∙ sym written))
+
+-- ---- the whole
+
+line_feed_is_utf8 : IsUtf8 (10 ∷ [])
+line_feed_is_utf8 = IsUtf8-are_ascii (10 ∷ []) refl
+
+-- what is written of a transcript's value, with a line feed behind it, is a document with that value
+pub transcript_reads_back : (t : Transcript) (d : Data) (bytes all : List ℕ) → d ≡ transcript_value t → IsUtf8 bytes → bytes ≡ print (tokens bytes) → IsInOrder bytes d
+    → (depth d ≤ max_depth → read bytes ≡ Some d) → all ≡ bytes ++ 10 ∷ [] → document all ≡ Some (transcript_value t)
+transcript_reads_back t d bytes all is utf8 written order reads last =
+    let shallow : depth d ≤ max_depth = omega (arith, ap depth is, transcript_value-depth t) in
+    let same = tokens-line_feed bytes order.0 written order.1 in
+    let back = ap (λ ts. option_and_then of_json (option_and_then (λ p. json.if_last p.0 p.1) (json.value max_depth ts))) same ∙ reads shallow ∙ ap Some is in
+    ap document last ∙ document_is (bytes ++ 10 ∷ []) (Some (transcript_value t)) (IsUtf8-append bytes (10 ∷ []) utf8 line_feed_is_utf8) back
