@@ -13,6 +13,7 @@ pub mod FillLemmas
 pub mod SplicePieces
 pub mod CoverLemmas
 pub mod StretchLemmas
+pub mod StretchPieces
 pub mod MovedLemmas
 mod MovedRows
 pub mod GapPieces

@@ -6,7 +6,7 @@ use Rattle.points.specs.declared.point.Point.{Point}
 use Rattle.patch.specs.Hunk.{Hunk}
 use Rattle.patch.specs.Tagged.{Tagged, tagged, edited, run, gaps}
 use Rattle.patch.specs.Fit.{HunkFits, tag}
-use Rattle.patch.specs.Splicing.{HasDeleted, IsSpliced, StandsForRun, StandsFor, StandsForMore}
+use Rattle.patch.specs.Splicing.{IsSpliced, StandsForRun, StandsFor, StandsForMore}
 use Rattle.patch.proofs.Pieces.{gaps_of_pieces}
 
 -- the run with one replacement more

@@ -1,20 +1,14 @@
 -- What one replacement makes of a list of changes, found in the list alone: the changes that it touches become one, and those behind it move.
-use Rattle.std.specs.Prelude.{ℕ, ◌==◌, ◌&&◌, List, [], ◌∷◌, ◌++◌, length, take, drop, map, nat_le, if◌then◌else◌, Option, Some, None, unwrap_or}
+use Rattle.std.specs.Prelude.{ℕ, List, [], ◌∷◌, ◌++◌, length, take, drop, map, nat_le, if◌then◌else◌, Option, Some, None, unwrap_or}
 use Rattle.points.specs.declared.point.Point.{Point}
 use Rattle.points.specs.Point.{origin, point_le, point_lt, traverse, traversal}
 use Rattle.points.specs.Place.{extent, offset_of}
 use Rattle.patch.specs.Hunk.{Hunk}
+use Rattle.patch.specs.Stretches.{change_by}
 
 -- the change that starts at these points of the old and the new text; none where both texts are empty
 abbrev pub change_at : Point → Point → List ℕ → List ℕ → List Hunk
-change_at a b old new = if (length old == 0) && (length new == 0) then [] else record {
-  old_start = a;
-  old_end = traverse a (extent old);
-  new_start = b;
-  new_end = traverse b (extent new);
-  old_text = old;
-  new_text = new;
-} ∷ []
+change_at = change_by traverse
 
 -- a change moved with the place `from` in the new text that has become `to`
 abbrev pub moved_hunk : Point → Point → Hunk → Hunk
@@ -33,6 +27,7 @@ pub record Cover : Type 0 where
   pub post : List ℕ
   pub rest : List Hunk
 
+-- what is covered, by its parts
 abbrev pub cover_made : List ℕ → List ℕ → List Hunk → Cover
 cover_made mid post rest = record { mid = mid; post = post; rest = rest }
 
@@ -70,5 +65,6 @@ spliced_from a b start deleted inserted [] = spliced_before a b start deleted in
 spliced_from a b start deleted inserted (h ∷ hs) = if point_lt h.new_end start then h ∷ spliced_from h.old_end h.new_end start deleted inserted hs
     else (if point_le h.new_start start then spliced_in start deleted inserted h hs else spliced_before a b start deleted inserted (h ∷ hs))
 
+-- the changes of a patch after one replacement more
 abbrev pub spliced : List Hunk → Point → List ℕ → List ℕ → List Hunk
 spliced p start deleted inserted = spliced_from origin origin start deleted inserted p

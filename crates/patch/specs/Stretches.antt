@@ -1,9 +1,10 @@
 -- Stretches of an old text, one behind the other: how far the text stays, and what is taken out and put in behind that.
-use Rattle.std.specs.Prelude.{ℕ, ◌-◌, ◌^◌, ◌==◌, ◌&&◌, ◌||◌, ◌≡◌, ◌<◌, IsTrue, List, [], ◌∷◌, ◌++◌, length, map, min, nat_lt, Bool, false, if◌then◌else◌}
+use Rattle.std.specs.Prelude.{ℕ, ◌+◌, ◌-◌, ◌^◌, ◌==◌, ◌&&◌, ◌||◌, ◌≡◌, ◌<◌, IsTrue, List, [], ◌∷◌, ◌++◌, length, map, min, nat_lt, Bool, false, if◌then◌else◌}
 use Rattle.points.specs.declared.point.Point.{Point}
 use Rattle.points.specs.Point.{origin, traverse, traversal}
 use Rattle.points.specs.Place.{extent, same_point}
 use Rattle.patch.specs.Hunk.{Hunk}
+use Rattle.patch.specs.Tagged.{Tagged, tagged_from, untagged}
 use Rattle.patch.specs.ChangeList.{reaches_far}
 use Rattle.patch.specs.declared.stretch.Stretch.{Stretch}
 use Rattle.patch.specs.declared.stretch.Open.{Open}
@@ -56,6 +57,13 @@ laid_behind c ps = laid_by traverse_capped c.old_start c.new_start c.old_text c.
 -- the changes that stretches make: those with nothing between are one, and those with no texts are none
 abbrev pub laid : List Part → List Hunk
 laid ps = laid_by traverse origin origin [] [] ps
+
+-- the text s and the tagged text g, which begin at offset i of the old one, are made of these stretches: both keep units of
+-- that extent; then s has the units taken out, and g those put in; and so on, and behind the last stretch both keep the rest
+abbrev pub AreStretches : ℕ → List Part → List ℕ → Tagged → Type 0
+AreStretches i [] s g = g ≡ tagged_from i s
+AreStretches i (p ∷ ps) s g = (kept : List ℕ) × (rest : List ℕ) × (more : Tagged) × (extent kept ≡ p.kept) × (s ≡ kept ++ (p.old_text ++ rest))
+    × (g ≡ tagged_from i kept ++ (untagged p.new_text ++ more)) × AreStretches (i + length kept + length p.old_text) ps rest more
 
 -- the stretches of changes, the first behind the point a of the old text
 abbrev pub parts_of : Point → List Hunk → List Part

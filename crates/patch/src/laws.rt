@@ -1,7 +1,9 @@
 //! Laws on patches: each is a function whose contract is the law.
-ghost use Rattle.std.specs.Prelude.{ℕ, List};
+ghost use Rattle.std.specs.Prelude.{◌≡◌, ℕ, List};
 ghost use Rattle.patch.specs.ChangeList.{IsPatch};
 ghost use Rattle.patch.specs.Fit.{Fits};
+ghost use Rattle.patch.specs.Tagged.{Tagged, gaps};
+ghost use Rattle.patch.specs.Stretches.{Part, laid, AreStretches};
 
 use crate::patch::Patch;
 
@@ -20,3 +22,8 @@ pub fn rules_are_kept(patch: &Patch)
 {
     let _kept = patch.as_slice();
 }
+
+/// What [`Patch::from_stretches`] makes is the gaps of every text that is made of the stretches.
+pub fn stretches_are_laid_as_gaps()
+    ensures { (parts : List Part) (s : List ℕ) (g : Tagged) → AreStretches 0 parts s g → laid parts ≡ gaps s g }
+{}

@@ -18,7 +18,8 @@ use Rattle.patch.specs.Fit.{Fits, offset_in, tag_from, tag, applied}
 use Rattle.patch.specs.Stretches.{Part, change_by, laid_by, laid, Refuses}
 use Rattle.patch.specs.Splicing.{KeepsLimits}
 use Rattle.patch.specs.declared.refusal.PatchRefusal.{PatchRefusal}
-use Rattle.patch.proofs.Pieces.{Piece, old_of, new_of, tag_of, changes_of, gaps_of_pieces}
+use Rattle.patch.proofs.StretchPieces.{part_of, pieces_laid}
+use Rattle.patch.proofs.Pieces.{Piece, old_of, new_of, tag_of, gaps_of_pieces}
 use Rattle.patch.proofs.PatchPieces.{shown, taken, IsCut, cut_of}
 use Rattle.patch.proofs.ShownPieces.{units_of_pieces}
 use Rattle.patch.proofs.GapPieces.{AreGapsOf, gaps_made}
@@ -58,29 +59,6 @@ takes_one units a b old new rest = ap (λ (xs : List ℕ). laid_by traverse a b 
 takes_more : (units mid : List ℕ) (ps : List Part) → TakesOut ps mid → TakesOut (taken_out units ∷ ps) (units ++ mid)
 takes_more units mid ps h a b old new rest = ap (λ (xs : List ℕ). laid_by traverse a b (old ++ units) xs (ps ++ rest)) (append-nil new)
     ∙ (h a b (old ++ units) new rest ∙ ap (λ (xs : List ℕ). laid_by traverse a b xs new rest) (append_assoc old units mid))
-
--- the stretch of a piece
-abbrev pub part_of : Piece → Part
-part_of p = record { kept = extent p.kept; old_text = p.old; new_text = p.new }
-
-no_extent : (u : ℕ) (us : List ℕ) → same_point (extent (u ∷ us)) origin ≡ false
-no_extent u us = some_extent (extent (u ∷ us)) (grind (arith, behind_whole (u ∷ us)))
-  where
-    some_extent : (p : Point) → 0 < p.row + p.column → same_point p origin ≡ false
-    some_extent p some = grind (arith, nat_tests)
-
--- stretches of pieces are laid out as the changes of the pieces
-pub pieces_laid : (a b : Point) (old new : List ℕ) (ps : List Piece) → laid_by traverse a b old new (map part_of ps) ≡ changes_of a b old new ps
-pieces_laid a b old new [] = refl
-pieces_laid a b old new (p ∷ ps) = at_kept p.kept (pieces_laid a b (old ++ p.old) (new ++ p.new) ps) (λ kept. pieces_laid (traverse (traverse a (extent old)) (extent kept)) (traverse (traverse b (extent new)) (extent kept)) p.old p.new ps)
-  where
-    at_kept : (kept : List ℕ) → laid_by traverse a b (old ++ p.old) (new ++ p.new) (map part_of ps) ≡ changes_of a b (old ++ p.old) (new ++ p.new) ps
-        → ((xs : List ℕ) → laid_by traverse (traverse (traverse a (extent old)) (extent xs)) (traverse (traverse b (extent new)) (extent xs)) p.old p.new (map part_of ps) ≡ changes_of (traverse (traverse a (extent old)) (extent xs)) (traverse (traverse b (extent new)) (extent xs)) p.old p.new ps)
-        → laid_by traverse a b old new (record { kept = extent kept; old_text = p.old; new_text = p.new } ∷ map part_of ps) ≡ changes_of a b old new (piece kept p.old p.new ∷ ps)
-    at_kept [] joins apart = joins
-    at_kept (u ∷ us) joins apart = ap (λ (none : Bool). cond none (laid_by traverse a b (old ++ p.old) (new ++ p.new) (map part_of ps))
-        (change_by traverse a b old new ++ laid_by traverse (traverse (traverse a (extent old)) (extent (u ∷ us))) (traverse (traverse b (extent new)) (extent (u ∷ us))) p.old p.new (map part_of ps))) (no_extent u us)
-        ∙ ap (λ (hs : List Hunk). change_by traverse a b old new ++ hs) (apart (u ∷ us))
 
 -- the changes of pieces, as they stand in the new text behind the point b
 abbrev pub seen : Point → List Piece → List Between

@@ -1,10 +1,14 @@
+ghost use Rattle.std.specs.Prelude.{◌≡◌, ◌<◌, ◌^◌, ℕ, List, [], IfOk};
+ghost use Rattle.patch.specs.Fit.{Fits};
+
 mod runs;
 
 use crate::{ApplyRefusal, apply, compose, fits};
 use line_text::LineText;
+use patch::laws::some_text_fits;
 use patch::place::at_most;
-use patch::{Change, Patch};
-use points::{Point, Range, Units};
+use patch::{Change, Patch, PatchRefusal};
+use points::{MAX_COORD, Point, Range, Units};
 use std::alloc::Global;
 use std::test::Fail;
 
@@ -178,5 +182,48 @@ fn deletion_across_changes_joins_them(rt: HostRuntime) -> Result<(), Fail> {
     assert!(rt; is_change(alloc, &both, 0, range(1, 7)?, "bcdefg", range(1, 3)?, "XZ")?);
     let made = apply(alloc, &both, &text)?.to_text()?;
     assert_eq!(rt; made.as_str(), "aXZh");
+    Ok(())
+}
+
+// A line feed put in at the start of a row.
+fn line_feed_at(alloc: Global, row: u32) -> Result<Change, Fail>
+    requires { row < 2 ^ 30 }
+    ensures start { IfOk result (λ change. (change.old_range.start ≡ record { row = row; column = 0 }) × (change.old_range.end ≡ record { row = row; column = 0 })) }
+    ensures text { IfOk result (λ change. change.old_text ≡ []) }
+{
+    let place = Point { row, column: 0 };
+    let behind = Point {
+        row: row + 1,
+        column: 0,
+    };
+    Ok(Change {
+        old_range: Range::new(place, place),
+        new_range: Range::new(place, behind),
+        old_text: Units::new(alloc),
+        new_text: Units::from_str(alloc, "\n")?,
+    })
+}
+
+// The patch of a line feed before all else, which fits every text.
+fn line_feed_first(alloc: Global) -> Result<Patch, Fail>
+    ensures { IfOk result (λ patch. (s : List ℕ) → Fits patch s) }
+{
+    let mut list = Vec::new(alloc);
+    list.push(line_feed_at(alloc, 0)?)?;
+    Ok(Patch::from_changes(list)?)
+}
+
+#[test]
+fn refuses_a_composition_past_the_greatest_row(rt: HostRuntime) -> Result<(), Fail> {
+    let alloc = rt.alloc();
+    let mut list = Vec::new(alloc);
+    list.push(line_feed_at(alloc, MAX_COORD - 1)?)?;
+    let first = Patch::from_changes(list)?;
+    let second = line_feed_first(alloc)?;
+    some_text_fits(&first);
+    match compose(alloc, &first, &second) {
+        Ok(_) => Err("a row passes the greatest one")?,
+        Err(refusal) => assert_eq!(rt; refusal, PatchRefusal::TooFar),
+    }
     Ok(())
 }
