@@ -282,7 +282,7 @@ fn edit_somewhere(alloc: Global, run: Run, state: &mut u64) -> Result<Run, Fail>
 fn random_edits_make_their_gaps(rt: HostRuntime) -> Result<(), Fail> {
     let alloc = rt.alloc();
     let mut state = 20_26u64;
-    for _ in 0..40 {
+    for _ in 0..300 {
         let original = draw_units(alloc, &mut state, 12)?;
         run_somewhere(alloc, original, &mut state)?;
     }

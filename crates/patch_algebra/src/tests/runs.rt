@@ -280,7 +280,7 @@ fn traced(alloc: Global, first: &[Tagged], second: &[Tagged]) -> Result<Vec<Tagg
 
 #[test]
 fn composed_runs_are_the_gaps_of_both(rt: HostRuntime) -> Result<(), Fail> {
-    for seed in 0..100 {
+    for seed in 0..300 {
         assert!(rt; runs_compose(rt.alloc(), seed)?);
     }
     Ok(())
