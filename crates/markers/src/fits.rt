@@ -7,7 +7,7 @@ ghost use Rattle.points.specs.MarkList.{MarkIsWithin, SpliceIsWithin};
 use crate::movement::{moved_upto, splice_of};
 use points::{MAX_COORD, Mark, Point, Splice, traversal};
 
-/// Whether neither an end of the splice nor a mark moved by it passes the greatest coordinate.
+/// Whether no end of the splice, and no end of any mark after it, passes the greatest coordinate.
 pub(crate) fn fits(marks: &[Mark], start: Point, old_extent: Point, new_extent: Point) -> bool
     ensures { IsTrue result ↔ SpliceIsWithin (2 ^ 30) (splice_of start old_extent new_extent) marks.now }
 {
