@@ -1,3 +1,5 @@
+pub mod ViewLemmas
+pub mod LookUpLemmas
 pub mod PlaceLemmas
 pub mod CopyLemmas
 pub mod ListLemmas
@@ -11,14 +13,14 @@ pub mod ShownPieces
 pub mod SurvivorLemmas
 pub mod FillLemmas
 pub mod SplicePieces
-pub mod CoverLemmas
+pub mod AbsorbLemmas
 pub mod StretchLemmas
 pub mod StretchPieces
 pub mod MovedLemmas
 mod MovedRows
 pub mod GapPieces
 pub mod SpliceLemmas
-pub mod CoverSteps
+pub mod AbsorbSteps
 pub mod JointLemmas
 pub mod SpliceSteps
 pub mod SpliceResult

@@ -22,7 +22,7 @@ use Rattle.patch.specs.declared.refusal.PatchRefusal.{PatchRefusal}
 use Rattle.patch.specs.declared.refusal.PatchRefusal.TheVariants as refusal
 use Rattle.patch.proofs.ListLemmas.{sound_from, both_none}
 use Rattle.patch.proofs.PatchPieces.{hunk_with}
-use Rattle.patch.proofs.CoverSteps.{hunks_next}
+use Rattle.patch.proofs.AbsorbSteps.{hunks_next}
 
 pub or_parts : (x y : Bool) → (x || y) ≡ false → (x ≡ false) × (y ≡ false)
 or_parts true y e = cc

@@ -6,17 +6,17 @@ ghost use Rattle.patch.specs.ChangeList.{reaches_far, is_empty_change, is_behind
 ghost use Rattle.patch.specs.Stretches.{any_far};
 
 use crate::change::Change;
-use crate::patch::MAX_CHANGES;
-use crate::place::{at_most, has_extent, is_far, same};
+use crate::place::{has_extent, is_far};
 use crate::refusal::ListRefusal;
+use crate::limits::MAX_CHANGES;
 use points::{Point, traversal};
 
 /// The first change that breaks a rule, with the lowest rule that it breaks.
 pub(crate) fn first_fault(changes: &[Change]) -> Option<ListRefusal>
     ensures { result ≡ fault_of (hunks_of changes.now) }
 {
-    let mut old_end = Point { row: 0, column: 0 };
-    let mut new_end = Point { row: 0, column: 0 };
+    let mut old_end = Point::default();
+    let mut new_end = Point::default();
     for (at, change) in changes.iter().enumerate() {
         let refusal = fault_at(at, old_end, new_end, change);
         if refusal.is_some() {
@@ -35,7 +35,7 @@ fn fault_at(at: usize, old_end: Point, new_end: Point, change: &Change) -> Optio
     if !is_behind(old_end, new_end, change) {
         return Some(ListRefusal::NotSorted { at });
     }
-    if at > 0 && same(change.old_range.start, old_end) {
+    if at > 0 && change.old_range.start == old_end {
         return Some(ListRefusal::NotApart { at });
     }
     if !has_extents(old_end, new_end, change) {
@@ -57,7 +57,7 @@ fn fault_at(at: usize, old_end: Point, new_end: Point, change: &Change) -> Optio
 fn is_behind(old_end: Point, new_end: Point, change: &Change) -> bool
     ensures { result ≡ is_behind old_end new_end (hunk_of change.now) }
 {
-    at_most(old_end, change.old_range.start) && at_most(new_end, change.new_range.start)
+    old_end <= change.old_range.start && new_end <= change.new_range.start
 }
 
 // Whether its texts and the stretch before it have the extents that its ranges tell.
@@ -67,7 +67,7 @@ fn has_extents(old_end: Point, new_end: Point, change: &Change) -> bool
 {
     let old = change.old_range;
     let new = change.new_range;
-    same(traversal(old.start, old_end), traversal(new.start, new_end))
+    traversal(old.start, old_end) == traversal(new.start, new_end)
         && has_extent(change.old_text.as_slice(), traversal(old.end, old.start))
         && has_extent(change.new_text.as_slice(), traversal(new.end, new.start))
 }

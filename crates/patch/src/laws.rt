@@ -10,7 +10,7 @@ use crate::patch::Patch;
 /// Some text fits every patch: each stretch between its changes may be as many line feeds and
 /// letters as reach over it.
 pub fn some_text_fits(patch: &Patch)
-    ensures { (s : List ℕ) × Fits patch.now s }
+    ensures { (s : List ℕ) × Fits patch.now.changes s }
 {
     let _kept = patch.as_slice();
 }
@@ -18,7 +18,7 @@ pub fn some_text_fits(patch: &Patch)
 /// Every patch keeps its rules: its changes are sorted, never touch, have the extents of their
 /// ranges, are never empty, reach no further than the greatest coordinate, and aren't too many.
 pub fn rules_are_kept(patch: &Patch)
-    ensures { IsPatch patch.now }
+    ensures { IsPatch patch.now.changes }
 {
     let _kept = patch.as_slice();
 }

@@ -5,11 +5,12 @@
 //! text that it fits. Points count rows and UTF-16 units, from 0.
 #![tactic(auto)]
 
+mod absorb;
 mod change;
 mod check;
 mod copies;
-mod cover;
 mod joint;
+mod limits;
 pub mod laws;
 mod lookup;
 mod old_text;
@@ -21,7 +22,8 @@ mod stretch;
 #[cfg(test)]
 mod tests;
 
-pub use change::{Change, ChangeView, Run};
-pub use patch::{MAX_CHANGES, Patch};
+pub use change::{Change, ChangeView, Changes, Run};
+pub use patch::Patch;
+pub use limits::MAX_CHANGES;
 pub use refusal::{ListRefusal, PatchRefusal};
 pub use stretch::Stretch;

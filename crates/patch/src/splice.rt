@@ -6,19 +6,43 @@ ghost use Rattle.patch.specs.Hunk.{Hunk, hunk_of, hunks_of};
 ghost use Rattle.patch.specs.ChangeList.{is_far, IsOrdered, IsPatch};
 ghost use Rattle.patch.specs.Stretches.{any_far, Refuses};
 ghost use Rattle.patch.specs.Spliced.{moved_hunk, spliced};
-ghost use Rattle.patch.specs.Splicing.{KeepsLimits};
+ghost use Rattle.patch.specs.Splicing.{CanSplice, IsSpliced, StandsForRun, StandsForMore, KeepsLimits};
 ghost use Rattle.patch.specs.Joints.{Joins, is_empty_joint, is_far_joint, joint_change, joint_list};
 
 use crate::change::Change;
 use crate::joint::{Joint, make_joint};
-use crate::patch::MAX_CHANGES;
+use crate::patch::Patch;
 use crate::place::{is_far, traverse_near, way};
 use crate::refusal::PatchRefusal;
+use crate::limits::MAX_CHANGES;
 use points::{NoMemory, Point, Range, traverse};
 
-/// Makes the changes what they are after `deleted` at `start` was replaced by `inserted`. A refusal
-/// leaves them as they were.
-pub(crate) fn splice(
+impl Patch {
+    /// In the new text, replaces `deleted` at `start` by `inserted`: the patch becomes that of the
+    /// whole run. Some text that the patch fits must have `deleted` there in what the patch makes of
+    /// it. Refused as `TooFar` where a coordinate would pass [`MAX_COORD`](points::MAX_COORD), else as
+    /// `TooMany` above [`MAX_CHANGES`] changes. A refusal leaves the patch as it was.
+    pub fn splice(
+        &mut self,
+        start: Point,
+        deleted: &[u16],
+        inserted: &[u16],
+    ) -> Result<(), PatchRefusal>
+        requires { CanSplice self.old.changes start deleted.now }
+        ensures run { OnOk result (IsSpliced self.old.changes start deleted.now inserted.now self.new.changes) }
+        ensures stands { OnOk result (StandsForRun self.old.changes start deleted.now inserted.now self.new.changes) }
+        ensures stands_for_more { OnOk result (StandsForMore self.old.changes start deleted.now inserted.now self.new.changes) }
+        ensures within { OnOk result (KeepsLimits self.new.changes) }
+        ensures err { IfErr result (λ refusal. (run : List Hunk) × IsSpliced self.old.changes start deleted.now inserted.now run × Refuses run refusal) }
+        ensures kept { OnErr result (self.new.changes ≡ self.old.changes) }
+    {
+        splice_changes(&mut self.changes, start, deleted, inserted)
+    }
+}
+
+// Makes the changes what they are after `deleted` at `start` was replaced by `inserted`. A refusal
+// leaves them as they were.
+fn splice_changes(
     changes: &mut Vec<Change>,
     start: Point,
     deleted: &[u16],
