@@ -1,8 +1,8 @@
 //! Points, ranges, distances, units and limits.
 use points::{
-    Distance, Hits, Ids, LAST_NUMBER, MAX_CHANGES, MAX_COORD, MAX_HANDS, MAX_MARKS, MAX_NODES,
-    MAX_STEPS, MAX_UNITS, MAX_WATCHERS, Mark, NoMemory, Point, Range, Splice, Units, extent_capped,
-    extent_of, has_extent, laws, leads_near, leads_within, led_by, offset_of, traversal, traverse,
+    Distance, Hits, Ids, LAST, MAX_CHANGES, MAX_COORD, MAX_HANDS, MAX_MARKS, MAX_NODES, MAX_STEPS,
+    MAX_UNITS, MAX_WATCHERS, Mark, NoMemory, Point, Range, Splice, Units, extent_capped, extent_of,
+    has_extent, laws, leads_near, leads_within, led_by, offset_of, traversal, traverse,
     traverse_capped, traverse_near,
 };
 use std::alloc::Global;
@@ -16,7 +16,7 @@ fn at(row: u32, column: u32) -> Point {
 fn limits_are_these(rt: HostRuntime) {
     assert!(rt; MAX_UNITS == 16_777_216 && MAX_CHANGES == 16_777_216 && MAX_NODES == 16_777_216);
     assert!(rt; MAX_COORD == 1_073_741_824 && MAX_MARKS == 1_000_000 && MAX_STEPS == 1_000);
-    assert!(rt; MAX_WATCHERS == 64 && MAX_HANDS == 32 && LAST_NUMBER == 9_223_372_036_854_775_807);
+    assert!(rt; MAX_WATCHERS == 64 && MAX_HANDS == 32 && LAST == 9_223_372_036_854_775_807);
 }
 
 // The ends of the range between two points, where they are in order.

@@ -19,7 +19,7 @@ mod way;
 pub use distance::Distance;
 pub use hits::{Hits, Ids};
 pub use limits::{
-    LAST_NUMBER, MAX_CHANGES, MAX_COORD, MAX_HANDS, MAX_MARKS, MAX_NODES, MAX_STEPS, MAX_UNITS,
+    LAST, MAX_CHANGES, MAX_COORD, MAX_HANDS, MAX_MARKS, MAX_NODES, MAX_STEPS, MAX_UNITS,
     MAX_WATCHERS,
 };
 pub use mark::{HitCounts, Mark, MarkOrder, Splice};

@@ -25,4 +25,4 @@ pub const MAX_WATCHERS: usize = 64;
 pub const MAX_HANDS: usize = 32;
 
 /// The last number that a call may have: 2^63 - 1. Numbers begin at 1 and rise by one.
-pub const LAST_NUMBER: u64 = (1 << 63) - 1;
+pub const LAST: u64 = (1 << 63) - 1;
