@@ -9,8 +9,8 @@ use Rattle.points.specs.Point.{origin, point_le, point_lt, traverse, traversal}
 use Rattle.points.specs.Place.{extent, offset_of}
 use Rattle.points.proofs.PointLemmas.{same_coordinates, point_le-false}
 use Rattle.points.proofs.OffsetLemmas.{offset_of-at}
+use Rattle.points.specs.Distance.{capped}
 use Rattle.patch.specs.Hunk.{Hunk, hunk_of, hunks_of}
-use Rattle.patch.specs.Stretches.{capped}
 use Rattle.patch.specs.Spliced.{change_at, moved_hunk, Absorption, absorption_made, absorption_step, absorption, one_change, units_before, spliced_in, spliced_before, spliced_from}
 use Rattle.patch.specs.Joints.{last_old_end, last_new_end, Joins}
 use Rattle.patch.specs.declared.joint.Joint.{Joint}

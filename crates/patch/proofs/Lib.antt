@@ -1,6 +1,5 @@
 pub mod ViewLemmas
 pub mod LookUpLemmas
-pub mod PlaceLemmas
 pub mod CopyLemmas
 pub mod ListLemmas
 pub mod GapLists
@@ -26,3 +25,4 @@ pub mod SpliceSteps
 pub mod SpliceResult
 pub mod StandLemmas
 pub mod RunLemmas
+pub mod CountLemmas

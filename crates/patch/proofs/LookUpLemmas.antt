@@ -2,8 +2,9 @@
 use Rattle.std.proofs.Common.{◌≡◌, ◌∙◌, ℕ, List, Option, Some, None, option_map, option_and_then, sym, ap}
 use Rattle.std.specs.List.{slice_get}
 use Rattle.points.specs.declared.point.Point.{Point}
+use Rattle.points.specs.Distance.{near}
 use Rattle.patch.specs.Hunk.{Hunk, hunk_seen}
-use Rattle.patch.specs.LookUp.{near, moved_over, moved_to_new, moved_to_old, to_new, to_old, change_for_old, change_for_new}
+use Rattle.patch.specs.LookUp.{moved_over, moved_to_new, moved_to_old, to_new, to_old, change_for_old, change_for_new}
 use Rattle.patch.specs.declared.change.ChangeView.{ChangeView}
 
 module _ (p : List Hunk) (point : Point) (found : Option ℕ) (change : Option ChangeView) (seen : option_map hunk_seen change ≡ option_and_then (slice_get p) found) where

@@ -11,8 +11,9 @@ use Rattle.points.specs.Point.{origin, point_le, point_lt, traverse, traversal, 
 use Rattle.points.specs.Place.{extent, same_point}
 use Rattle.points.proofs.PointLemmas.{same_point-true, traverse_assoc, traverse_origin, traverse-origin, traverse-traversal, traversal-traverse, point_le-traverse, point_le-refl, point_le_trans, point_le-false, traverse_mono, traversal_mono}
 use Rattle.points.proofs.ExtentLemmas.{extent-append}
+use Rattle.points.specs.Distance.{is_far}
 use Rattle.patch.specs.Hunk.{Hunk, hunk_of, hunks_of}
-use Rattle.patch.specs.ChangeList.{is_far, is_empty_change, fault_at, fault_from, IsOrdered, IsPatch}
+use Rattle.patch.specs.ChangeList.{is_empty_change, fault_at, fault_from, IsOrdered, IsPatch}
 use Rattle.patch.specs.Stretches.{Part, part_seen, parts_seen, parts_of, change_by, laid_by, laid, any_far, Refuses}
 use Rattle.patch.specs.declared.stretch.Stretch.{Stretch}
 use Rattle.patch.specs.Splicing.{KeepsLimits}

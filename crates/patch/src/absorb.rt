@@ -7,8 +7,7 @@ ghost use Rattle.patch.specs.Spliced.{absorption, absorption_made};
 ghost use Rattle.patch.specs.declared.change.Change.{Change};
 
 use crate::change::Change;
-use crate::place::{offset_in, way};
-use points::{NoMemory, Point, Units};
+use points::{NoMemory, Point, Units, offset_of, traversal};
 
 /// What replaced units absorb, from a change of a list on.
 #[derive(Drop)]
@@ -82,7 +81,7 @@ fn kept_before(
     if at == changes.len() {
         return None;
     }
-    offset_in(&deleted[passed..], way(changes[at].new_range.start, place))
+    offset_of(&deleted[passed..], traversal(changes[at].new_range.start, place))
 }
 
 // Puts `kept` of the units behind the first `passed`, and the change's old ones, at the end.

@@ -1,15 +1,13 @@
 //! The rules that a list of changes keeps, tested at each change in turn.
-ghost use Rattle.std.specs.Prelude.{◌≡◌, IsTrue};
+ghost use Rattle.std.specs.Prelude.{◌≡◌};
 ghost use Rattle.points.specs.Point.{origin};
 ghost use Rattle.patch.specs.Hunk.{hunk_of, hunks_of};
 ghost use Rattle.patch.specs.ChangeList.{reaches_far, is_empty_change, is_behind, has_extents, fault_at, fault_of};
 ghost use Rattle.patch.specs.Stretches.{any_far};
 
 use crate::change::Change;
-use crate::place::{has_extent, is_far};
 use crate::refusal::ListRefusal;
-use crate::limits::MAX_CHANGES;
-use points::{Point, traversal};
+use points::{MAX_CHANGES, Point, has_extent, traversal};
 
 /// The first change that breaks a rule, with the lowest rule that it breaks.
 pub(crate) fn first_fault(changes: &[Change]) -> Option<ListRefusal>
@@ -62,7 +60,6 @@ fn is_behind(old_end: Point, new_end: Point, change: &Change) -> bool
 
 // Whether its texts and the stretch before it have the extents that its ranges tell.
 fn has_extents(old_end: Point, new_end: Point, change: &Change) -> bool
-    requires { IsTrue (is_behind old_end new_end (hunk_of change.now)) }
     ensures { result ≡ has_extents old_end new_end (hunk_of change.now) }
 {
     let old = change.old_range;
@@ -90,5 +87,5 @@ fn reaches_far(change: &Change) -> bool
 {
     let old = change.old_range;
     let new = change.new_range;
-    is_far(old.start) || is_far(old.end) || is_far(new.start) || is_far(new.end)
+    old.start.is_far() || old.end.is_far() || new.start.is_far() || new.end.is_far()
 }

@@ -3,17 +3,16 @@ ghost use Rattle.std.specs.Prelude.{◌≡◌, ℕ, ◌+◌, ◌<◌, ◌≤◌,
 ghost use Rattle.points.specs.declared.point.Point.{Point};
 ghost use Rattle.points.specs.Point.{origin, point_le, traverse, traversal};
 ghost use Rattle.points.specs.Place.{extent};
+ghost use Rattle.points.specs.Distance.{capped};
 ghost use Rattle.patch.specs.Hunk.{Hunk, hunk_of, hunks_of};
 ghost use Rattle.patch.specs.ChangeList.{IsPatch};
-ghost use Rattle.patch.specs.Stretches.{capped};
 ghost use Rattle.patch.specs.Spliced.{absorption, spliced, spliced_in, spliced_before, spliced_from, units_before};
 ghost use Rattle.patch.specs.Joints.{last_old_end, last_new_end, Joins};
 ghost use Rattle.patch.specs.declared.change.Change.{Change};
 
 use crate::change::Change;
 use crate::absorb::{Absorbed, absorb};
-use crate::place::{led_by, offset_in, traverse_capped, way};
-use points::{NoMemory, Point, Units};
+use points::{NoMemory, Point, Units, led_by, offset_of, traversal, traverse_capped};
 use std::alloc::Global;
 
 /// The change that a replacement makes, and where it stands in the list. A coordinate that passes
@@ -101,7 +100,7 @@ fn units_before(change: &Change, start: Point) -> &[u16]
     ensures within { length result.now ≤ length change.now.new_text }
 {
     let units = change.new_text.as_slice();
-    match offset_in(units, way(start, change.new_range.start)) {
+    match offset_of(units, traversal(start, change.new_range.start)) {
         Some(at) => &units[..at],
         None => &units[..0],
     }
@@ -172,10 +171,10 @@ fn old_place(changes: &[Change], first: usize, start: Point) -> Point
     ensures { result ≡ capped (traverse (last_old_end origin (take first (hunks_of changes.now))) (traversal start (last_new_end origin (take first (hunks_of changes.now))))) }
 {
     if first == 0 {
-        return traverse_capped(Point::default(), way(start, Point::default()));
+        return traverse_capped(Point::default(), traversal(start, Point::default()));
     }
     let change = &changes[first - 1];
-    traverse_capped(change.old_range.end, way(start, change.new_range.end))
+    traverse_capped(change.old_range.end, traversal(start, change.new_range.end))
 }
 
 // Where a joint starts, in the old and in the new text.

@@ -2,16 +2,16 @@
 //! to, which changes a range touches, and where a point goes.
 ghost use Rattle.std.specs.Prelude.{◌≡◌, ◌-◌, ℕ, List, length, slice_get, nat_lt, if◌then◌else◌, Option, option_map, option_and_then};
 ghost use Rattle.points.specs.Place.{point_at};
+ghost use Rattle.points.specs.Distance.{near};
 ghost use Rattle.patch.specs.Hunk.{hunk_seen};
 ghost use Rattle.patch.specs.ChangeList.{IsPatch};
 ghost use Rattle.patch.specs.Fit.{Fits, applied};
 ghost use Rattle.patch.specs.Surviving.{Survives};
-ghost use Rattle.patch.specs.LookUp.{change_for_old, change_for_new, changes_in_old, changes_in_new, near, moved_over, to_new, to_old};
+ghost use Rattle.patch.specs.LookUp.{change_for_old, change_for_new, changes_in_old, changes_in_new, moved_over, to_new, to_old};
 
 use crate::change::{ChangeView, Run};
 use crate::patch::Patch;
-use crate::place::{leads_within, traverse_near, way};
-use points::{MAX_COORD, Point, Range};
+use points::{Point, Range, leads_within, traversal, traverse_near};
 
 impl Patch {
     /// The last change whose old start is at most the point; none where all stand behind it.
@@ -112,9 +112,9 @@ fn moved_over(point: Point, from: Range, to: Range) -> Option<Point>
     ensures { result ≡ near (moved_over from.start from.end to.start to.end point) }
 {
     if from.end <= point {
-        return traverse_near(to.end, way(point, from.end));
+        return traverse_near(to.end, traversal(point, from.end));
     }
-    let reach = way(point, from.start);
+    let reach = traversal(point, from.start);
     if leads_within(to.start, reach, to.end) {
         traverse_near(to.start, reach)
     } else {
@@ -126,9 +126,5 @@ fn moved_over(point: Point, from: Range, to: Range) -> Option<Point>
 fn near(point: Point) -> Option<Point>
     ensures { result ≡ near point }
 {
-    if point.row > MAX_COORD || point.column > MAX_COORD {
-        None
-    } else {
-        Some(point)
-    }
+    if point.is_far() { None } else { Some(point) }
 }

@@ -1,5 +1,5 @@
 //! What is kept of a patch when its old text changes underneath.
-ghost use Rattle.std.specs.Prelude.{◌≡◌, ◌≤◌, ◌^◌, false, IsTrue, IfOk, IfErr, IfSome, OnOk, OnErr, option_map};
+ghost use Rattle.std.specs.Prelude.{◌≡◌, ◌≤◌, false, IsTrue, IfOk, IfErr, IfSome, OnOk, OnErr, option_map};
 ghost use Rattle.points.specs.Point.{origin, point_le, traversal, IsWithin};
 ghost use Rattle.patch.specs.Hunk.{hunks_of};
 ghost use Rattle.patch.specs.ChangeList.{IsPatch};
@@ -8,10 +8,9 @@ ghost use Rattle.patch.specs.MovedOld.{kept_of, kept_start, moved_with, moved_ol
 
 use crate::change::Change;
 use crate::patch::Patch;
-use crate::place::traverse_capped;
 use crate::refusal::PatchRefusal;
 use crate::stretch::Stretch;
-use points::{NoMemory, Point, Range, traversal};
+use points::{MAX_COORD, NoMemory, Point, Range, traversal, traverse_capped};
 use std::alloc::Global;
 
 impl Patch {
@@ -27,7 +26,7 @@ impl Patch {
     ) -> Result<(), PatchRefusal>
         requires from_start { IsTrue (point_le start old_end) }
         requires to_start { IsTrue (point_le start new_end) }
-        requires near { IsWithin (2 ^ 30) new_end }
+        requires near { IsWithin MAX_COORD new_end }
         ensures moved { OnOk result (self.new.changes ≡ moved_old self.old.changes start old_end new_end) }
         ensures reached { OnOk result (any_far (moved_old self.old.changes start old_end new_end) ≡ false) }
         ensures err { IfErr result (RefusesMove (moved_old self.old.changes start old_end new_end)) }
@@ -59,7 +58,7 @@ fn kept_stretches<'a>(
     requires patch { IsPatch (hunks_of changes.now) }
     requires from_start { IsTrue (point_le start old_end) }
     requires to_start { IsTrue (point_le start new_end) }
-    requires near { IsWithin (2 ^ 30) new_end }
+    requires near { IsWithin MAX_COORD new_end }
     ensures { IfOk result (λ kept. parts_seen kept.items ≡ parts_of origin (kept_of start old_end new_end (hunks_of changes.now))) }
 {
     let mut kept = Vec::with_capacity(alloc, changes.len())?;
@@ -81,9 +80,9 @@ fn kept_stretches<'a>(
 // The old range of a kept change: one that ends at `start` or before it stays, else one that starts
 // at `old_end` or behind it moves.
 fn kept_range(range: Range, start: Point, old_end: Point, new_end: Point) -> Option<Range>
-    requires near_start { IsWithin (2 ^ 30) range.start }
-    requires near_end { IsWithin (2 ^ 30) range.end }
-    requires near { IsWithin (2 ^ 30) new_end }
+    requires near_start { IsWithin MAX_COORD range.start }
+    requires near_end { IsWithin MAX_COORD range.end }
+    requires near { IsWithin MAX_COORD new_end }
     ensures start { option_map (λ kept. kept.start) result ≡ kept_start start old_end new_end range.start range.end }
     ensures reach { IfSome result (λ kept. traversal kept.end kept.start ≡ traversal range.end range.start) }
 {
@@ -99,9 +98,9 @@ fn kept_range(range: Range, start: Point, old_end: Point, new_end: Point) -> Opt
 // A range at `old_end` or behind it, moved as `old_end` moves to `new_end`.
 fn range_with(range: Range, old_end: Point, new_end: Point) -> Range
     requires behind { IsTrue (point_le old_end range.start) }
-    requires near_start { IsWithin (2 ^ 30) range.start }
-    requires near_end { IsWithin (2 ^ 30) range.end }
-    requires near { IsWithin (2 ^ 30) new_end }
+    requires near_start { IsWithin MAX_COORD range.start }
+    requires near_end { IsWithin MAX_COORD range.end }
+    requires near { IsWithin MAX_COORD new_end }
     ensures start { result.start ≡ moved_with old_end new_end range.start }
     ensures reach { traversal result.end result.start ≡ traversal range.end range.start }
 {

@@ -2,8 +2,9 @@
 ghost use Rattle.std.specs.Prelude.{◌≡◌, ℕ, ◌+◌, ◌-◌, ◌<◌, ◌≤◌, ◌++◌, ◌∷◌, ◌||◌, List, [], length, take, drop, map, Bool, false, IsTrue, IfErr, OnOk, OnErr, MatchOption};
 ghost use Rattle.std.specs.List.{All};
 ghost use Rattle.points.specs.Point.{point_le, traverse, traversal};
+ghost use Rattle.points.specs.Distance.{is_far};
 ghost use Rattle.patch.specs.Hunk.{Hunk, hunk_of, hunks_of};
-ghost use Rattle.patch.specs.ChangeList.{is_far, IsOrdered, IsPatch};
+ghost use Rattle.patch.specs.ChangeList.{IsOrdered, IsPatch};
 ghost use Rattle.patch.specs.Stretches.{any_far, Refuses};
 ghost use Rattle.patch.specs.Spliced.{moved_hunk, spliced};
 ghost use Rattle.patch.specs.Splicing.{CanSplice, IsSpliced, StandsForRun, StandsForMore, KeepsLimits};
@@ -12,10 +13,8 @@ ghost use Rattle.patch.specs.Joints.{Joins, is_empty_joint, is_far_joint, joint_
 use crate::change::Change;
 use crate::joint::{Joint, make_joint};
 use crate::patch::Patch;
-use crate::place::{is_far, traverse_near, way};
 use crate::refusal::PatchRefusal;
-use crate::limits::MAX_CHANGES;
-use points::{NoMemory, Point, Range, traverse};
+use points::{MAX_CHANGES, NoMemory, Point, Range, traversal, traverse, traverse_near};
 
 impl Patch {
     /// In the new text, replaces `deleted` at `start` by `inserted`: the patch becomes that of the
@@ -105,10 +104,10 @@ fn is_far_joint(joint: &Joint) -> bool
     ensures { result ≡ is_far_joint joint.now }
 {
     !is_empty_joint(joint)
-        && (is_far(joint.old_start)
-            || is_far(joint.old_end)
-            || is_far(joint.new_start)
-            || is_far(joint.new_end))
+        && (joint.old_start.is_far()
+            || joint.old_end.is_far()
+            || joint.new_start.is_far()
+            || joint.new_end.is_far())
 }
 
 // Whether a coordinate of a change from index `first` on passes the greatest one, where they move
@@ -129,8 +128,8 @@ fn any_moved_far(changes: &[Change], first: usize, from: Point, to: Point) -> bo
 fn range_far(range: Range, from: Point, to: Point) -> bool
     ensures { result ≡ (is_far (traverse to (traversal range.start from)) || is_far (traverse to (traversal range.end from))) }
 {
-    traverse_near(to, way(range.start, from)).is_none()
-        || traverse_near(to, way(range.end, from)).is_none()
+    traverse_near(to, traversal(range.start, from)).is_none()
+        || traverse_near(to, traversal(range.end, from)).is_none()
 }
 
 // Puts the joint in its place, and moves the changes behind it. A refusal leaves them as they were.
@@ -224,7 +223,7 @@ fn moved_range(range: Range, from: Point, to: Point) -> Range
     ensures end { result.end ≡ traverse to (traversal range.end from) }
 {
     Range::new(
-        traverse(to, way(range.start, from)),
-        traverse(to, way(range.end, from)),
+        traverse(to, traversal(range.start, from)),
+        traverse(to, traversal(range.end, from)),
     )
 }

@@ -2,17 +2,16 @@
 ghost use Rattle.std.specs.Prelude.{◌≡◌, ◌++◌, [], ◌∷◌, List, IsTrue, IfOk, IfErr, OnOk};
 ghost use Rattle.points.specs.Point.{origin, point_le};
 ghost use Rattle.points.specs.Place.{extent};
+ghost use Rattle.points.specs.Distance.{traverse_capped};
 ghost use Rattle.patch.specs.Hunk.{hunks_of};
 ghost use Rattle.patch.specs.ChangeList.{IsPatch};
-ghost use Rattle.patch.specs.Stretches.{Part, part_seen, parts_seen, laid, laid_by, laid_behind, traverse_capped, Refuses};
+ghost use Rattle.patch.specs.Stretches.{Part, part_seen, parts_seen, laid, laid_by, laid_behind, Refuses};
 
 use crate::change::Change;
 use crate::check::any_far;
 use crate::patch::Patch;
-use crate::place::{extent_capped, traverse_capped};
 use crate::refusal::PatchRefusal;
-use crate::limits::MAX_CHANGES;
-use points::{NoMemory, Point, Range, Units};
+use points::{MAX_CHANGES, NoMemory, Point, Range, Units, extent_capped, traverse_capped};
 use std::alloc::Global;
 
 /// A stretch of an old text: how far the text stays, and what is taken out and put in behind that.

@@ -11,9 +11,8 @@ ghost use Rattle.patch_algebra.specs.Merging.{between, between_seen, betweens_se
 
 use crate::middle::{Middle, middles_of};
 use patch::laws::rules_are_kept;
-use patch::place::{offset_in, way};
 use patch::{ChangeView, Patch, PatchRefusal, Stretch};
-use points::{NoMemory, Point};
+use points::{NoMemory, Point, offset_of, traversal};
 use std::alloc::Global;
 
 /// The patch that does what `first` and then `second` do. Some text must fit the first, and what
@@ -80,7 +79,7 @@ fn replace<'a>(
     let start = change.old_range.start;
     let reached = open_at(stretches, middles, reached, start)?;
     stretches.push(Stretch {
-        kept: way(start, reached.place),
+        kept: traversal(start, reached.place),
         old_text: &[],
         new_text: change.new_text,
     })?;
@@ -157,7 +156,7 @@ fn cut<'a>(
     let middle = middles[reached.at];
     let (before, behind) = middle.cut_at(to);
     stretches.push(Stretch {
-        kept: way(middle.start, reached.place),
+        kept: traversal(middle.start, reached.place),
         old_text: middle.old_text,
         new_text: before,
     })?;
@@ -253,7 +252,7 @@ fn kept_before(middles: &[Middle<'_>], at: usize, place: Point, units: &[u16]) -
     if at == middles.len() {
         return None;
     }
-    offset_in(units, way(middles[at].start, place))
+    offset_of(units, traversal(middles[at].start, place))
 }
 
 // Units taken out where nothing is kept before them.

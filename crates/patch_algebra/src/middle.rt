@@ -4,9 +4,8 @@ ghost use Rattle.patch.specs.Hunk.{hunk_seen};
 ghost use Rattle.patch.specs.Stretches.{part_seen};
 ghost use Rattle.patch_algebra.specs.Merging.{between, between_seen, betweens_seen, part_between, left_of, cut_offset};
 
-use patch::place::{offset_in, way};
 use patch::{ChangeView, Patch, Stretch};
-use points::{NoMemory, Point};
+use points::{NoMemory, Point, offset_of, traversal};
 use std::alloc::Global;
 
 /// A change, or what is left of one: where its new text stands in the text between two patches,
@@ -37,7 +36,7 @@ impl<'a> Middle<'a> {
         ensures { part_seen result ≡ part_between place (between_seen self.now) }
     {
         Stretch {
-            kept: way(self.start, place),
+            kept: traversal(self.start, place),
             old_text: self.old_text,
             new_text: self.new_text,
         }
@@ -60,7 +59,7 @@ impl<'a> Middle<'a> {
         ensures before { result.0.now ≡ take (cut_offset to (between_seen self.now)) self.now.new_text.now }
         ensures behind { result.1.now ≡ drop (cut_offset to (between_seen self.now)) self.now.new_text.now }
     {
-        let at = offset_in(self.new_text, way(to, self.start)).unwrap_or(0);
+        let at = offset_of(self.new_text, traversal(to, self.start)).unwrap_or(0);
         self.new_text.split_at(at)
     }
 }
