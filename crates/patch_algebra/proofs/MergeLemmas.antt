@@ -10,7 +10,7 @@ use Rattle.points.specs.Place.{extent, offset_of, same_point}
 use Rattle.points.proofs.PointLemmas.{traverse_origin, traversal-traverse, point_le-traverse}
 use Rattle.points.proofs.ExtentLemmas.{extent-append, behind_whole}
 use Rattle.points.proofs.OffsetLemmas.{offset_of-at}
-use Rattle.patch.specs.Hunk.{Hunk}
+use Rattle.patch.specs.Hunk.{Hunk, PatchView}
 use Rattle.patch.specs.ChangeList.{IsPatch}
 use Rattle.patch.proofs.MovedLemmas.{keeps_limits}
 use Rattle.patch.specs.Tagged.{Tagged, tagged_from, tagged, untagged, units_of, gaps}
@@ -24,7 +24,7 @@ use Rattle.patch.proofs.PatchPieces.{shown, taken, IsCut, cut_of}
 use Rattle.patch.proofs.ShownPieces.{units_of_pieces}
 use Rattle.patch.proofs.GapPieces.{AreGapsOf, gaps_made}
 use Rattle.patch.proofs.SplicePieces.{piece, old-append, tag-append, tagged-append, length-tagged, length-tag, untagged-append, IsAbsorbed, absorbed_tail, absorbed_kept, absorbed_new, absorbed_more}
-use Rattle.patch.proofs.CoverLemmas.{shorter, behind_it, extent_two, not_reached, reached}
+use Rattle.patch.proofs.AbsorbLemmas.{shorter, behind_it, extent_two, not_reached, reached}
 use Rattle.patch_algebra.specs.Composing.{replaced_from, composed, FitsBoth, IsComposed, DoesBoth}
 use Rattle.patch_algebra.specs.Merging.{Between, between, part_to, part_between, parts_between, Opening, opened, cut_offset, left_of, opening, Removal, removal_made, taken_out, left_behind, removal, merged}
 use Rattle.patch_algebra.proofs.MergeSteps.{opening_stops, opening_passes, opening_cuts, removal_none, removal_ends, removal_more, left_none, left_some}
@@ -646,18 +646,18 @@ module _ (p q : List Hunk) (ps : List Part) (p_is : IsPatch p) (q_is : IsPatch q
   does_both = λ s both. let does = both_are p q s p_is q_is both in
       (subst (λ (hs : List Hunk). Fits hs s) (ap laid (sym ps_is)) does.fits, ap (λ (hs : List Hunk). applied hs s) (ap laid ps_is) ∙ does.in_turn)
 
-  pub ok_composed : (r : Result (List Hunk) PatchRefusal) → IfOk r (λ patch. (patch ≡ laid ps) × IsPatch (laid ps)) → IfOk r (IsComposed p q)
+  pub ok_composed : (r : Result PatchView PatchRefusal) → IfOk r (λ patch. (patch.changes ≡ laid ps) × IsPatch (laid ps)) → IfOk r (λ patch. IsComposed p q patch.changes)
   ok_composed (Ok patch) h = λ s both. composed_laid s both ∙ sym h.0
   ok_composed (Err e) h = tt
 
-  pub ok_in_turn : (r : Result (List Hunk) PatchRefusal) → IfOk r (λ patch. (patch ≡ laid ps) × IsPatch (laid ps)) → IfOk r (DoesBoth p q)
+  pub ok_in_turn : (r : Result PatchView PatchRefusal) → IfOk r (λ patch. (patch.changes ≡ laid ps) × IsPatch (laid ps)) → IfOk r (λ patch. DoesBoth p q patch.changes)
   ok_in_turn (Ok patch) h = subst (λ (hs : List Hunk). DoesBoth p q hs) (sym h.0) does_both
   ok_in_turn (Err e) h = tt
 
-  pub err_composed : (r : Result (List Hunk) PatchRefusal) → IfErr r (Refuses (laid ps)) → IfErr r (λ refusal. (changes : List Hunk) × IsComposed p q changes × Refuses changes refusal)
+  pub err_composed : (r : Result PatchView PatchRefusal) → IfErr r (Refuses (laid ps)) → IfErr r (λ refusal. (changes : List Hunk) × IsComposed p q changes × Refuses changes refusal)
   err_composed (Ok patch) h = tt
   err_composed (Err e) h = (laid ps, composed_laid, h)
 
-pub ok_within : (r : Result (List Hunk) PatchRefusal) (ps : List Part) → IfOk r (λ patch. (patch ≡ laid ps) × IsPatch (laid ps)) → IfOk r KeepsLimits
+pub ok_within : (r : Result PatchView PatchRefusal) (ps : List Part) → IfOk r (λ patch. (patch.changes ≡ laid ps) × IsPatch (laid ps)) → IfOk r (λ patch. KeepsLimits patch.changes)
 ok_within (Ok patch) ps h = subst (λ (hs : List Hunk). KeepsLimits hs) (sym h.0) (keeps_limits (laid ps) h.1)
 ok_within (Err e) ps h = tt

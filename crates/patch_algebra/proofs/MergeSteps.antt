@@ -1,5 +1,5 @@
 -- The merge of two patches, step by step: one change of the first patch more, passed, cut or taken out.
-use Rattle.std.proofs.Common.{◌≡◌, ℕ, suc, zero, ◌+◌, ◌-◌, ◌<◌, ◌≤◌, List, [], ◌∷◌, ◌++◌, length, take, drop, get_or, set, map, cond, eqb, Bool, true, false, Option, Some, None, unwrap_or, refl, sym, ap, ◌∙◌, subst, arith, append_assoc}
+use Rattle.std.proofs.Common.{◌≡◌, ℕ, suc, zero, ◌+◌, ◌-◌, ◌<◌, ◌≤◌, List, [], ◌∷◌, ◌++◌, length, take, drop, get_or, set, map, cond, eqb, Bool, true, false, Option, Some, None, unwrap_or, refl, sym, ap, ◌∙◌, subst, arith, append-nil, append_assoc}
 use Rattle.std.specs.Prelude.{MatchOption, slice_get}
 use Rattle.std.proofs.lemmas.List.{drop_more, get_or_default, map-append}
 use Rattle.std.proofs.lemmas.Bool.{le-leb, lt-leb, ne_eqb}
@@ -11,7 +11,6 @@ use Rattle.patch.specs.Hunk.{Hunk}
 use Rattle.patch.specs.Stretches.{Part, part_seen, parts_seen}
 use Rattle.patch.specs.declared.stretch.Stretch.{Stretch}
 use Rattle.patch_algebra.specs.declared.middle.Middle.{Middle}
-use Rattle.patch_algebra.proofs.FitLemmas.{got}
 use Rattle.patch_algebra.specs.Merging.{Between, between, between_seen, betweens_seen, part_to, part_between, Opening, opened, cut_offset, left_of, opening, Opens, Removal, removal_made, taken_out, left_behind, removal_step, removal}
 
 -- the next change
@@ -102,15 +101,14 @@ set_seen (x ∷ xs) zero m lt = refl
 set_seen (x ∷ xs) (suc i) m lt = let e : suc (i + 1) ≡ suc i + 1 = omega arith in set_seen xs i m (omega arith) ∙ ap (λ (n : ℕ). between_seen m ∷ betweens_seen (drop n (x ∷ xs))) e
 
 -- one change more of a patch
-pub got_more : (hs : List Hunk) (i : ℕ) (h : Hunk) (done new : List Middle) (m : Middle) → i < length hs → Some h ≡ slice_get hs i → betweens_seen done ≡ map between (take i hs) → between_seen m ≡ between h → new ≡ done ++ m ∷ []
-    → betweens_seen new ≡ map between (take (i + 1) hs)
-got_more hs i h done new m lt got before same pushed = ap betweens_seen pushed ∙ (map-append between_seen done (m ∷ []) ∙ (ap (λ (bs : List Between). bs ++ between_seen m ∷ []) before
-    ∙ (ap (λ (b : Between). map between (take i hs) ++ b ∷ []) same ∙ (sym (map-append between (take i hs) (h ∷ [])) ∙ ap (map between) (sym (taken_more hs i h lt got))))))
-  where
-    taken_more : (xs : List Hunk) (i : ℕ) (x : Hunk) → i < length xs → Some x ≡ slice_get xs i → take (i + 1) xs ≡ take i xs ++ x ∷ []
-    taken_more [] i x lt got = absurd (omega arith)
-    taken_more (y ∷ ys) zero x lt got = cc
-    taken_more (y ∷ ys) (suc i) x lt got = let e : suc i + 1 ≡ suc (i + 1) = omega arith in ap (λ (n : ℕ). take n (y ∷ ys)) e ∙ ap (λ (zs : List Hunk). y ∷ zs) (taken_more ys i x (omega arith) got)
+pub middle_more : (hs left rest : List Hunk) (h : Hunk) (done new : List Middle) (m : Middle) → left ≡ h ∷ rest → betweens_seen done ++ map between left ≡ map between hs → between_seen m ≡ between h → new ≡ done ++ m ∷ []
+    → betweens_seen new ++ map between rest ≡ map between hs
+middle_more hs left rest h done new m is before same pushed = ap (λ (ms : List Middle). betweens_seen ms ++ map between rest) pushed
+    ∙ (ap (λ (bs : List Between). bs ++ map between rest) (map-append between_seen done (m ∷ []) ∙ ap (λ (b : Between). betweens_seen done ++ b ∷ []) same)
+    ∙ (append_assoc (betweens_seen done) (between h ∷ []) (map between rest) ∙ (ap (λ (xs : List Hunk). betweens_seen done ++ map between xs) (sym is) ∙ before)))
+
+pub middle_last : (hs left : List Hunk) (done : List Middle) → left ≡ [] → betweens_seen done ++ map between left ≡ map between hs → betweens_seen done ≡ map between hs
+middle_last hs left done none before = sym (append-nil (betweens_seen done)) ∙ (ap (λ (xs : List Hunk). betweens_seen done ++ map between xs) (sym none) ∙ before)
 
 -- one change more is removal_made
 module _ (ms : List Middle) (stop : ℕ) (m : Middle) (place : Point) (units behind : List ℕ) (k : ℕ) (lt : stop < length ms) (is : m ≡ get_or ms stop m)
@@ -138,9 +136,6 @@ pub read_at : (ms : List Middle) (i : ℕ) → i < length ms → get_or ms i no_
 read_at ms i lt = get_or_default ms i no_middle (get_or ms i no_middle) lt
 
 -- the changes of the second patch from an index on
-pub left_from : (hs : List Hunk) (i : ℕ) (h : Hunk) → i < length hs → Some h ≡ slice_get hs i → drop i hs ≡ h ∷ drop (i + 1) hs
-left_from hs i h lt found = drop_more hs i h lt ∙ ap (λ (x : Hunk). x ∷ drop (i + 1) hs) (got hs i h h (sym found))
-
 -- what is left is written over the change
 pub left_set : (items ms : List Middle) (stop : ℕ) (m : Middle) (end : Point) (units : List ℕ) (x : Middle) → ms ≡ items → 0 < stop → stop ≤ length ms → x ≡ get_or items (stop - 1) x → between_seen m ≡ left_of end (between_seen x) units → (length units ≡ 0 → ⊥)
     → betweens_seen (drop (stop - 1) (set items (stop - 1) m)) ≡ left_behind end (between_seen (get_or ms (stop - 1) x)) units (betweens_seen (drop stop ms))
