@@ -5,4 +5,14 @@
 #[cfg(test)]
 mod line_text_tests;
 #[cfg(test)]
+mod patch_algebra_tests;
+#[cfg(test)]
+mod patch_cases;
+#[cfg(test)]
+mod patch_tests;
+#[cfg(test)]
 mod points_tests;
+#[cfg(test)]
+mod splice_runs_tests;
+#[cfg(test)]
+mod tagged_runs;

@@ -31,9 +31,12 @@ pub(crate) fn absorb<'a>(
 ) -> Result<Absorbed<'a>, NoMemory>
     requires { first ≤ length changes.now }
     ensures stop { IfOk result (λ found. (first ≤ found.stop) × (found.stop ≤ length changes.now)) }
-    ensures old_text { IfOk result (λ found. found.old_text ≡ old_text ++ (absorption start deleted.now (hunks_of (drop first changes.now))).mid) }
-    ensures post { IfOk result (λ found. found.post.now ≡ (absorption start deleted.now (hunks_of (drop first changes.now))).post) }
-    ensures rest { IfOk result (λ found. hunks_of (drop found.stop changes.now) ≡ (absorption start deleted.now (hunks_of (drop first changes.now))).rest) }
+    ensures old_text { IfOk result (λ found. found.old_text ≡ old_text
+        ++ (absorption start deleted.now (hunks_of (drop first changes.now))).mid) }
+    ensures post { IfOk result (λ found. found.post.now
+        ≡ (absorption start deleted.now (hunks_of (drop first changes.now))).post) }
+    ensures rest { IfOk result (λ found. hunks_of (drop found.stop changes.now)
+        ≡ (absorption start deleted.now (hunks_of (drop first changes.now))).rest) }
 {
     let mut old_text = old_text;
     let mut stop = first;
@@ -74,14 +77,19 @@ fn kept_before(
     passed: usize,
 ) -> Option<usize>
     requires { (at ≤ length changes.now) × (passed ≤ length deleted.now) }
-    ensures { MatchOption result (absorption place (drop passed deleted.now) (hunks_of (drop at changes.now)) ≡ absorption_made (drop passed deleted.now) [] (hunks_of (drop at changes.now)))
+    ensures { MatchOption result (absorption place (drop passed deleted.now) (hunks_of (drop at changes.now))
+        ≡ absorption_made (drop passed deleted.now) [] (hunks_of (drop at changes.now)))
         (λ kept. (at < length changes.now) × (passed + kept ≤ length deleted.now)
-        × ((d : Change) → offset_of (drop passed deleted.now) (traversal (slice_index_or changes.now at d).new_range.start place) ≡ Some kept)) }
+        × ((d : Change) → offset_of (drop passed deleted.now)
+        (traversal (slice_index_or changes.now at d).new_range.start place) ≡ Some kept)) }
 {
     if at == changes.len() {
         return None;
     }
-    offset_of(&deleted[passed..], traversal(changes[at].new_range.start, place))
+    offset_of(
+        &deleted[passed..],
+        traversal(changes[at].new_range.start, place),
+    )
 }
 
 // Puts `kept` of the units behind the first `passed`, and the change's old ones, at the end.
@@ -93,7 +101,8 @@ fn take_in(
     change: &Change,
 ) -> Result<(), NoMemory>
     requires { passed + kept ≤ length deleted.now }
-    ensures { IfOk result (λ _. old_text.new ≡ old_text.old ++ (take kept (drop passed deleted.now) ++ change.now.old_text)) }
+    ensures { IfOk result (λ _. old_text.new ≡ old_text.old
+        ++ (take kept (drop passed deleted.now) ++ change.now.old_text)) }
 {
     old_text.append(&deleted[passed..passed + kept])?;
     old_text.append(change.old_text.as_slice())

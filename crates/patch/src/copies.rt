@@ -13,7 +13,8 @@ impl Patch {
     pub fn invert(&self) -> Result<Patch, NoMemory>
         ensures sides { IfOk result (λ patch. patch.changes ≡ map inverted self.now.changes) }
         ensures back { IfOk result (λ patch. (s : List ℕ) → Fits self.now.changes s
-            → Fits patch.changes (applied self.now.changes s) × (applied patch.changes (applied self.now.changes s) ≡ s)) }
+            → Fits patch.changes (applied self.now.changes s) × (applied patch.changes (applied self.now.changes s)
+            ≡ s)) }
     {
         let changes = turned(self.allocator(), self.as_slice())?;
         Ok(Patch { changes })

@@ -10,8 +10,8 @@ ghost use Rattle.patch.specs.Spliced.{absorption, spliced, spliced_in, spliced_b
 ghost use Rattle.patch.specs.Joints.{last_old_end, last_new_end, Joins};
 ghost use Rattle.patch.specs.declared.change.Change.{Change};
 
-use crate::change::Change;
 use crate::absorb::{Absorbed, absorb};
+use crate::change::Change;
 use points::{NoMemory, Point, Units, led_by, offset_of, traversal, traverse_capped};
 use std::alloc::Global;
 
@@ -42,7 +42,8 @@ pub(crate) fn make_joint(
     inserted: &[u16],
 ) -> Result<Joint, NoMemory>
     requires { IsPatch (hunks_of changes.now) }
-    ensures { IfOk result (λ joint. (q : List Hunk) × (spliced (hunks_of changes.now) start deleted.now inserted.now ≡ take joint.first (hunks_of changes.now) ++ q) × Joins (hunks_of changes.now) q joint) }
+    ensures { IfOk result (λ joint. (q : List Hunk) × (spliced (hunks_of changes.now) start deleted.now inserted.now
+        ≡ take joint.first (hunks_of changes.now) ++ q) × Joins (hunks_of changes.now) q joint) }
 {
     let first = first_reaching(changes, start);
     if first < changes.len() && starts_by(&changes[first], start) {
@@ -63,9 +64,13 @@ fn starts_by(change: &Change, point: Point) -> bool
 fn first_reaching(changes: &[Change], start: Point) -> usize
     requires { IsPatch (hunks_of changes.now) }
     ensures within { result ≤ length changes.now }
-    ensures value { (deleted inserted : List ℕ) → spliced (hunks_of changes.now) start deleted inserted ≡ take result (hunks_of changes.now)
-        ++ spliced_from (last_old_end origin (take result (hunks_of changes.now))) (last_new_end origin (take result (hunks_of changes.now))) start deleted inserted (hunks_of (drop result changes.now)) }
-    ensures reaches { result < length changes.now → (d : Change) → IsTrue (point_le start (slice_index_or changes.now result d).new_range.end) }
+    ensures value { (deleted inserted : List ℕ) → spliced (hunks_of changes.now) start deleted inserted
+        ≡ take result (hunks_of changes.now)
+        ++ spliced_from (last_old_end origin (take result (hunks_of changes.now)))
+        (last_new_end origin (take result (hunks_of changes.now))) start deleted inserted
+        (hunks_of (drop result changes.now)) }
+    ensures reaches { result < length changes.now → (d : Change)
+        → IsTrue (point_le start (slice_index_or changes.now result d).new_range.end) }
 {
     changes.partition_point(|change| change.new_range.end < start)
 }
@@ -82,7 +87,8 @@ fn joint_in(
     requires { first < length changes.now }
     ensures first { IfOk result (λ joint. joint.first ≡ first) }
     ensures joins { IfOk result (λ joint. (d : Change) → Joins (hunks_of changes.now)
-        (spliced_in start deleted.now inserted.now (hunk_of (slice_index_or changes.now first d)) (hunks_of (drop (first + 1) changes.now))) joint) }
+        (spliced_in start deleted.now inserted.now (hunk_of (slice_index_or changes.now first d))
+        (hunks_of (drop (first + 1) changes.now))) joint) }
 {
     let change = &changes[first];
     let before = units_before(change, start);
@@ -114,12 +120,17 @@ fn absorb_from<'a>(
     before: usize,
     deleted: &[u16],
 ) -> Result<Absorbed<'a>, NoMemory>
-    requires { (at < length changes.now) × ((d : Change) → before ≤ length (slice_index_or changes.now at d).new_text) }
+    requires { (at < length changes.now)
+        × ((d : Change) → before ≤ length (slice_index_or changes.now at d).new_text) }
     ensures stop { IfOk result (λ found. (at ≤ found.stop) × (found.stop ≤ length changes.now)) }
     ensures absorbed { IfOk result (λ found. (d : Change) (pre : List ℕ) → length pre ≡ before
-        → (found.old_text ≡ (absorption (slice_index_or changes.now at d).new_range.start (pre ++ deleted.now) (hunks_of (drop at changes.now))).mid)
-        × (found.post.now ≡ (absorption (slice_index_or changes.now at d).new_range.start (pre ++ deleted.now) (hunks_of (drop at changes.now))).post)
-        × (hunks_of (drop found.stop changes.now) ≡ (absorption (slice_index_or changes.now at d).new_range.start (pre ++ deleted.now) (hunks_of (drop at changes.now))).rest)) }
+        → (found.old_text ≡ (absorption (slice_index_or changes.now at d).new_range.start (pre
+        ++ deleted.now) (hunks_of (drop at changes.now))).mid)
+        × (found.post.now ≡ (absorption (slice_index_or changes.now at d).new_range.start (pre
+        ++ deleted.now) (hunks_of (drop at changes.now))).post)
+        × (hunks_of (drop found.stop changes.now)
+        ≡ (absorption (slice_index_or changes.now at d).new_range.start (pre
+        ++ deleted.now) (hunks_of (drop at changes.now))).rest)) }
 {
     let change = &changes[at];
     let new_text = change.new_text.as_slice();
@@ -153,8 +164,10 @@ fn joint_before(
 ) -> Result<Joint, NoMemory>
     requires { first ≤ length changes.now }
     ensures first { IfOk result (λ joint. joint.first ≡ first) }
-    ensures joins { IfOk result (λ joint. Joins (hunks_of changes.now) (spliced_before (last_old_end origin (take first (hunks_of changes.now)))
-        (last_new_end origin (take first (hunks_of changes.now))) start deleted.now inserted.now (hunks_of (drop first changes.now))) joint) }
+    ensures joins { IfOk result (λ joint. Joins (hunks_of changes.now)
+        (spliced_before (last_old_end origin (take first (hunks_of changes.now)))
+        (last_new_end origin (take first (hunks_of changes.now))) start deleted.now inserted.now
+        (hunks_of (drop first changes.now))) joint) }
 {
     let found = absorb(changes, first, start, deleted, Units::new(alloc))?;
     let starts = Starts {
@@ -168,7 +181,8 @@ fn joint_before(
 // before index `first`.
 fn old_place(changes: &[Change], first: usize, start: Point) -> Point
     requires { first ≤ length changes.now }
-    ensures { result ≡ capped (traverse (last_old_end origin (take first (hunks_of changes.now))) (traversal start (last_new_end origin (take first (hunks_of changes.now))))) }
+    ensures { result ≡ capped (traverse (last_old_end origin (take first (hunks_of changes.now)))
+        (traversal start (last_new_end origin (take first (hunks_of changes.now))))) }
 {
     if first == 0 {
         return traverse_capped(Point::default(), traversal(start, Point::default()));
@@ -195,12 +209,16 @@ fn joint_of(
     found: Absorbed<'_>,
 ) -> Result<Joint, NoMemory>
     ensures list { IfOk result (λ joint. (joint.first ≡ first) × (joint.stop ≡ found.entry.stop)) }
-    ensures texts { IfOk result (λ joint. (joint.old_text ≡ found.entry.old_text) × (joint.new_text ≡ before.now ++ inserted.now ++ found.entry.post.now)) }
+    ensures texts { IfOk result (λ joint. (joint.old_text ≡ found.entry.old_text)
+        × (joint.new_text ≡ before.now ++ inserted.now ++ found.entry.post.now)) }
     ensures within { (capped starts.old ≡ starts.old) × (capped starts.new ≡ starts.new) }
     ensures starts { IfOk result (λ joint. (joint.old_start ≡ starts.old) × (joint.new_start ≡ starts.new)) }
-    ensures old_end { IfOk result (λ joint. (p : Point) → starts.old ≡ capped p → joint.old_end ≡ capped (traverse p (extent found.entry.old_text))) }
-    ensures new_end { IfOk result (λ joint. joint.new_end ≡ capped (traverse starts.new (extent (before.now ++ inserted.now ++ found.entry.post.now)))) }
-    ensures from { IfOk result (λ joint. joint.from ≡ capped (traverse starts.new (extent (before.now ++ deleted.now ++ found.entry.post.now)))) }
+    ensures old_end { IfOk result (λ joint. (p : Point) → starts.old ≡ capped p → joint.old_end
+        ≡ capped (traverse p (extent found.entry.old_text))) }
+    ensures new_end { IfOk result (λ joint. joint.new_end
+        ≡ capped (traverse starts.new (extent (before.now ++ inserted.now ++ found.entry.post.now)))) }
+    ensures from { IfOk result (λ joint. joint.from
+        ≡ capped (traverse starts.new (extent (before.now ++ deleted.now ++ found.entry.post.now)))) }
 {
     let Absorbed {
         stop,

@@ -34,7 +34,8 @@ pub fn stretches_are_laid_as_gaps()
 /// together, and two more. Each gap but the last has a unit behind it that both texts have, and each
 /// takes a unit of one of them that the other lacks.
 pub fn gaps_of_a_run_are_few()
-    ensures { (s : List ℕ) (edits : List (ℕ × ℕ × List ℕ)) → AreForward edits → 3 * length (gaps s (run (tagged s) edits)) ≤ length s + length (run (tagged s) edits) + 2 }
+    ensures { (s : List ℕ) (edits : List (ℕ × ℕ × List ℕ)) → AreForward edits
+        → 3 * length (gaps s (run (tagged s) edits)) ≤ length s + length (run (tagged s) edits) + 2 }
 {}
 
 /// Where both texts of a run have at most 3 * 2^24 units together, its gaps keep the limits of a
@@ -42,6 +43,8 @@ pub fn gaps_of_a_run_are_few()
 /// and the number follows from [`gaps_of_a_run_are_few`]. Two texts of at most 2^24 units are so.
 /// The bound is sharp: two texts of 2^25 units may have 22,369,622 gaps between them.
 pub fn gaps_of_a_run_keep_limits()
-    ensures together { (s : List ℕ) (edits : List (ℕ × ℕ × List ℕ)) → AreForward edits → length s + length (run (tagged s) edits) ≤ 3 * MAX_CHANGES → KeepsLimits (gaps s (run (tagged s) edits)) }
-    ensures each { (s : List ℕ) (edits : List (ℕ × ℕ × List ℕ)) → AreForward edits → length s ≤ 2 ^ 24 → length (run (tagged s) edits) ≤ 2 ^ 24 → KeepsLimits (gaps s (run (tagged s) edits)) }
+    ensures together { (s : List ℕ) (edits : List (ℕ × ℕ × List ℕ)) → AreForward edits
+        → length s + length (run (tagged s) edits) ≤ 3 * MAX_CHANGES → KeepsLimits (gaps s (run (tagged s) edits)) }
+    ensures each { (s : List ℕ) (edits : List (ℕ × ℕ × List ℕ)) → AreForward edits → length s ≤ 2 ^ 24
+        → length (run (tagged s) edits) ≤ 2 ^ 24 → KeepsLimits (gaps s (run (tagged s) edits)) }
 {}

@@ -17,8 +17,6 @@ mod patch;
 mod refusal;
 mod splice;
 mod stretch;
-#[cfg(test)]
-mod tests;
 
 pub use change::{Change, ChangeView, Changes, Run};
 pub use patch::Patch;

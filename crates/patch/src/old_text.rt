@@ -1,4 +1,4 @@
-//! What is kept of a patch when its old text changes underneath.
+//! A patch whose old text changes underneath: which changes are kept, and where they stand after it.
 ghost use Rattle.std.specs.Prelude.{◌≡◌, ◌≤◌, false, IsTrue, IfOk, IfErr, IfSome, OnOk, OnErr, option_map};
 ghost use Rattle.points.specs.Point.{origin, point_le, traversal, IsWithin};
 ghost use Rattle.patch.specs.Hunk.{hunks_of};
@@ -59,7 +59,8 @@ fn kept_stretches<'a>(
     requires from_start { IsTrue (point_le start old_end) }
     requires to_start { IsTrue (point_le start new_end) }
     requires near { IsWithin MAX_COORD new_end }
-    ensures { IfOk result (λ kept. parts_seen kept.items ≡ parts_of origin (kept_of start old_end new_end (hunks_of changes.now))) }
+    ensures { IfOk result (λ kept. parts_seen kept.items
+        ≡ parts_of origin (kept_of start old_end new_end (hunks_of changes.now))) }
 {
     let mut kept = Vec::with_capacity(alloc, changes.len())?;
     let mut end = Point { row: 0, column: 0 };

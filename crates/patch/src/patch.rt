@@ -43,7 +43,8 @@ impl Patch {
 
     /// The patch with these changes.
     pub fn from_changes(changes: Vec<Change>) -> Result<Self, ListRefusal>
-        ensures { MatchResult result (λ patch. (patch.changes ≡ hunks_of changes.items) × IsPatch (hunks_of changes.items))
+        ensures { MatchResult result (λ patch. (patch.changes ≡ hunks_of changes.items)
+            × IsPatch (hunks_of changes.items))
             (λ refusal. fault_of (hunks_of changes.items) ≡ Some refusal) }
     {
         if let Some(refusal) = first_fault(changes.as_slice()) {

@@ -41,7 +41,8 @@ impl Patch {
     /// [`MAX_COORD`](points::MAX_COORD), else as `TooMany` where there would be more than
     /// [`MAX_CHANGES`] changes.
     pub fn from_stretches(alloc: Global, stretches: &[Stretch<'_>]) -> Result<Self, PatchRefusal>
-        ensures made { IfOk result (λ patch. (patch.changes ≡ laid (parts_seen stretches.now)) × IsPatch (laid (parts_seen stretches.now))) }
+        ensures made { IfOk result (λ patch. (patch.changes ≡ laid (parts_seen stretches.now))
+            × IsPatch (laid (parts_seen stretches.now))) }
         ensures err { IfErr result (Refuses (laid (parts_seen stretches.now))) }
     {
         let changes = laid(alloc, stretches)?;
@@ -57,7 +58,8 @@ impl Patch {
 
 // The changes that the stretches make, with coordinates that count no further than a `u32` can.
 fn laid(alloc: Global, stretches: &[Stretch<'_>]) -> Result<Vec<Change>, NoMemory>
-    ensures { IfOk result (λ changes. hunks_of changes.items ≡ laid_by traverse_capped origin origin [] [] (parts_seen stretches.now)) }
+    ensures { IfOk result (λ changes. hunks_of changes.items
+        ≡ laid_by traverse_capped origin origin [] [] (parts_seen stretches.now)) }
 {
     let mut changes = Vec::new(alloc);
     let mut last = Open {
@@ -80,7 +82,8 @@ fn with_stretch(
     last: Open,
     stretch: Stretch<'_>,
 ) -> Result<Open, NoMemory>
-    ensures { IfOk result (λ next. (ps : List Part) → hunks_of changes.new.items ++ laid_behind next ps ≡ hunks_of changes.old.items ++ laid_behind last (part_seen stretch.entry ∷ ps)) }
+    ensures { IfOk result (λ next. (ps : List Part) → hunks_of changes.new.items ++ laid_behind next ps
+        ≡ hunks_of changes.old.items ++ laid_behind last (part_seen stretch.entry ∷ ps)) }
 {
     let mut last = if stretch.kept == Point::default() {
         last
@@ -100,8 +103,10 @@ fn opened_behind(
     kept: Point,
 ) -> Result<Open, NoMemory>
     ensures closed { OnOk result (hunks_of changes.new.items ≡ hunks_of changes.old.items ++ laid_behind last []) }
-    ensures old_start { IfOk result (λ next. next.old_start ≡ traverse_capped (traverse_capped last.old_start (extent last.old_text)) kept) }
-    ensures new_start { IfOk result (λ next. next.new_start ≡ traverse_capped (traverse_capped last.new_start (extent last.new_text)) kept) }
+    ensures old_start { IfOk result (λ next. next.old_start
+        ≡ traverse_capped (traverse_capped last.old_start (extent last.old_text)) kept) }
+    ensures new_start { IfOk result (λ next. next.new_start
+        ≡ traverse_capped (traverse_capped last.new_start (extent last.new_text)) kept) }
     ensures old_text { IfOk result (λ next. next.old_text ≡ []) }
     ensures new_text { IfOk result (λ next. next.new_text ≡ []) }
 {

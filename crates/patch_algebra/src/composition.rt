@@ -24,7 +24,8 @@ pub fn compose(alloc: Global, first: &Patch, second: &Patch) -> Result<Patch, Pa
     ensures made { IfOk result (λ patch. IsComposed first.now.changes second.now.changes patch.changes) }
     ensures in_turn { IfOk result (λ patch. DoesBoth first.now.changes second.now.changes patch.changes) }
     ensures within { IfOk result (λ patch. KeepsLimits patch.changes) }
-    ensures err { IfErr result (λ refusal. (changes : List Hunk) × IsComposed first.now.changes second.now.changes changes × Refuses changes refusal) }
+    ensures err { IfErr result (λ refusal. (changes : List Hunk)
+        × IsComposed first.now.changes second.now.changes changes × Refuses changes refusal) }
 {
     rules_are_kept(first);
     rules_are_kept(second);
@@ -41,7 +42,8 @@ fn merged<'a>(
     first: &'a Patch,
     second: &'a Patch,
 ) -> Result<Vec<Stretch<'a>>, NoMemory>
-    ensures { IfOk result (λ stretches. parts_seen stretches.items ≡ merged origin (map between first.now.changes) second.now.changes) }
+    ensures { IfOk result (λ stretches. parts_seen stretches.items
+        ≡ merged origin (map between first.now.changes) second.now.changes) }
 {
     let mut middles = middles_of(alloc, first)?;
     let mut stretches = Vec::new(alloc);
@@ -73,8 +75,11 @@ fn replace<'a>(
 ) -> Result<Reached, NoMemory>
     requires { reached.at ≤ length middles.old.items }
     ensures within { IfOk result (λ next. next.at ≤ length middles.new.items) }
-    ensures merged { IfOk result (λ next. (qs : List Hunk) → parts_seen stretches.new.items ++ merged next.place (betweens_seen (drop next.at middles.new.items)) qs
-        ≡ parts_seen stretches.old.items ++ merged reached.place (betweens_seen (drop reached.at middles.old.items)) (hunk_seen change.entry ∷ qs)) }
+    ensures merged { IfOk result (λ next. (qs : List Hunk) → parts_seen stretches.new.items
+        ++ merged next.place (betweens_seen (drop next.at middles.new.items)) qs
+        ≡ parts_seen stretches.old.items
+        ++ merged reached.place (betweens_seen (drop reached.at middles.old.items)) (hunk_seen change.entry
+        ∷ qs)) }
 {
     let start = change.old_range.start;
     let reached = open_at(stretches, middles, reached, start)?;
@@ -99,9 +104,12 @@ fn open_at<'a>(
 ) -> Result<Reached, NoMemory>
     requires { reached.at ≤ length middles.old.items }
     ensures within { IfOk result (λ next. next.at ≤ length middles.new.items) }
-    ensures parts { IfOk result (λ next. parts_seen stretches.new.items ≡ parts_seen stretches.old.items ++ (opening reached.place to (betweens_seen (drop reached.at middles.old.items))).parts) }
-    ensures place { IfOk result (λ next. next.place ≡ (opening reached.place to (betweens_seen (drop reached.at middles.old.items))).place) }
-    ensures rest { IfOk result (λ next. betweens_seen (drop next.at middles.new.items) ≡ (opening reached.place to (betweens_seen (drop reached.at middles.old.items))).rest) }
+    ensures parts { IfOk result (λ next. parts_seen stretches.new.items ≡ parts_seen stretches.old.items
+        ++ (opening reached.place to (betweens_seen (drop reached.at middles.old.items))).parts) }
+    ensures place { IfOk result (λ next. next.place
+        ≡ (opening reached.place to (betweens_seen (drop reached.at middles.old.items))).place) }
+    ensures rest { IfOk result (λ next. betweens_seen (drop next.at middles.new.items)
+        ≡ (opening reached.place to (betweens_seen (drop reached.at middles.old.items))).rest) }
 {
     let reached = pass(stretches, middles.as_slice(), reached, to)?;
     if reached.at == middles.len() || to <= middles[reached.at].start {
@@ -119,7 +127,8 @@ fn pass<'a>(
 ) -> Result<Reached, NoMemory>
     requires { reached.at ≤ length middles.now }
     ensures within { IfOk result (λ next. next.at ≤ length middles.now) }
-    ensures opens { IfOk result (λ next. Opens to (parts_seen stretches.old.items) reached.place (betweens_seen (drop reached.at middles.now))
+    ensures opens { IfOk result (λ next. Opens to (parts_seen stretches.old.items) reached.place
+        (betweens_seen (drop reached.at middles.now))
         (parts_seen stretches.new.items) next.place (betweens_seen (drop next.at middles.now))) }
     ensures stops { IfOk result (λ next. IsTrue (stops_at to (betweens_seen (drop next.at middles.now)))) }
 {
@@ -148,10 +157,15 @@ fn cut<'a>(
     requires { reached.at < length middles.old.items }
     ensures at { IfOk result (λ next. next.at ≡ reached.at) }
     ensures place { IfOk result (λ next. next.place ≡ to) }
-    ensures parts { IfOk result (λ next. (d : Middle) → let m = between_seen (slice_index_or middles.old.items reached.at d) in parts_seen stretches.new.items
-        ≡ parts_seen stretches.old.items ++ part_to reached.place m.start m.old_text (take (cut_offset to m) m.new_text) ∷ []) }
-    ensures rest { IfOk result (λ next. (d : Middle) → let m = between_seen (slice_index_or middles.old.items reached.at d) in
-        (length middles.new.items ≡ length middles.old.items) × (betweens_seen (drop reached.at middles.new.items) ≡ left_of to m (drop (cut_offset to m) m.new_text) ∷ betweens_seen (drop (reached.at + 1) middles.old.items))) }
+    ensures parts { IfOk result (λ next. (d : Middle) →
+        let m = between_seen (slice_index_or middles.old.items reached.at d) in parts_seen stretches.new.items
+        ≡ parts_seen stretches.old.items
+        ++ part_to reached.place m.start m.old_text (take (cut_offset to m) m.new_text) ∷ []) }
+    ensures rest { IfOk result (λ next. (d : Middle) →
+        let m = between_seen (slice_index_or middles.old.items reached.at d) in
+        (length middles.new.items ≡ length middles.old.items) × (betweens_seen (drop reached.at middles.new.items)
+        ≡ left_of to m (drop (cut_offset to m) m.new_text)
+        ∷ betweens_seen (drop (reached.at + 1) middles.old.items))) }
 {
     let middle = middles[reached.at];
     let (before, behind) = middle.cut_at(to);
@@ -178,9 +192,11 @@ fn take_out<'a>(
     requires { at ≤ length middles.old.items }
     ensures within { IfOk result (λ next. next ≤ length middles.new.items) }
     ensures parts { IfOk result (λ next. parts_seen stretches.new.items ≡ parts_seen stretches.old.items
-        ++ (removal change.entry.old_range.end change.entry.old_range.start change.entry.old_text.now (betweens_seen (drop at middles.old.items))).parts) }
+        ++ (removal change.entry.old_range.end change.entry.old_range.start change.entry.old_text.now
+        (betweens_seen (drop at middles.old.items))).parts) }
     ensures rest { IfOk result (λ next. betweens_seen (drop next middles.new.items)
-        ≡ (removal change.entry.old_range.end change.entry.old_range.start change.entry.old_text.now (betweens_seen (drop at middles.old.items))).rest) }
+        ≡ (removal change.entry.old_range.end change.entry.old_range.start change.entry.old_text.now
+        (betweens_seen (drop at middles.old.items))).rest) }
 {
     let removed = remove(
         stretches,
@@ -217,8 +233,12 @@ fn remove<'a>(
     requires { at ≤ length middles.now }
     ensures stop { IfOk result (λ removed. removed.stop ≤ length middles.now) }
     ensures left { IfOk result (λ removed. 0 < length removed.left.now → 0 < removed.stop) }
-    ensures parts { IfOk result (λ removed. (end : Point) → parts_seen stretches.new.items ≡ parts_seen stretches.old.items ++ (removal end start deleted.entry.now (betweens_seen (drop at middles.now))).parts) }
-    ensures rest { IfOk result (λ removed. (end : Point) (d : Middle) → left_behind end (between_seen (slice_index_or middles.now (removed.stop - 1) d)) removed.left.now (betweens_seen (drop removed.stop middles.now))
+    ensures parts { IfOk result (λ removed. (end : Point) → parts_seen stretches.new.items
+        ≡ parts_seen stretches.old.items
+        ++ (removal end start deleted.entry.now (betweens_seen (drop at middles.now))).parts) }
+    ensures rest { IfOk result (λ removed. (end : Point) (d : Middle)
+        → left_behind end (between_seen (slice_index_or middles.now (removed.stop - 1) d)) removed.left.now
+        (betweens_seen (drop removed.stop middles.now))
         ≡ (removal end start deleted.entry.now (betweens_seen (drop at middles.now))).rest) }
 {
     let mut stop = at;
@@ -245,7 +265,8 @@ fn remove<'a>(
 // they end before it, or there is no such change.
 fn kept_before(middles: &[Middle<'_>], at: usize, place: Point, units: &[u16]) -> Option<usize>
     requires { at ≤ length middles.now }
-    ensures { MatchOption result ((end : Point) → removal end place units.now (betweens_seen (drop at middles.now)) ≡ removal_made (taken_out units.now ∷ []) (betweens_seen (drop at middles.now)))
+    ensures { MatchOption result ((end : Point) → removal end place units.now (betweens_seen (drop at middles.now))
+        ≡ removal_made (taken_out units.now ∷ []) (betweens_seen (drop at middles.now)))
         (λ kept. (at < length middles.now) × (kept ≤ length units.now)
         × ((d : Middle) → offset_of units.now (traversal (slice_index_or middles.now at d).start place) ≡ Some kept)) }
 {
@@ -273,7 +294,8 @@ fn finish<'a>(
     reached: Reached,
 ) -> Result<(), NoMemory>
     requires { reached.at ≤ length middles.now }
-    ensures { OnOk result (parts_seen stretches.new.items ≡ parts_seen stretches.old.items ++ parts_between reached.place (betweens_seen (drop reached.at middles.now))) }
+    ensures { OnOk result (parts_seen stretches.new.items ≡ parts_seen stretches.old.items
+        ++ parts_between reached.place (betweens_seen (drop reached.at middles.now))) }
 {
     let mut place = reached.place;
     for middle in &middles[reached.at..] {

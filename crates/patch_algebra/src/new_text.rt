@@ -1,20 +1,20 @@
 //! The new text, put together from what stays of the old one and the new texts of the changes.
-ghost use Rattle.std.specs.Prelude.{◌≡◌, ◌≤◌, ◌<◌, ◌↔◌, IsTrue, ◌^◌, length, slice_range, IfOk, IfErr, OnOk};
+ghost use Rattle.std.specs.Prelude.{◌≡◌, ◌≤◌, ◌<◌, ◌↔◌, IsTrue, length, slice_range, IfOk, IfErr, OnOk};
 ghost use Rattle.patch.specs.Fit.{Fits, applied, offset_in};
 ghost use Rattle.patch_algebra.specs.Applying.{Explains};
 
 use crate::fit::first_misfit;
 use crate::refusal::ApplyRefusal;
-use line_text::{LineText, MAX_UNITS};
+use line_text::LineText;
 use patch::Patch;
-use points::{NoMemory, Point, Units};
+use points::{MAX_UNITS, NoMemory, Point, Units};
 use std::alloc::Global;
 
 /// The text with the old ranges of all changes replaced at once by their new texts.
 pub fn apply(alloc: Global, patch: &Patch, text: &LineText) -> Result<LineText, ApplyRefusal>
     ensures fits { OnOk result (Fits patch.now.changes text.now) }
     ensures made { IfOk result (λ made. made ≡ applied patch.now.changes text.now) }
-    ensures short { OnOk result (length (applied patch.now.changes text.now) ≤ 2 ^ 24) }
+    ensures short { OnOk result (length (applied patch.now.changes text.now) ≤ MAX_UNITS) }
     ensures err { IfErr result (Explains patch.now.changes text.now) }
 {
     if let Some(change) = first_misfit(patch, text) {
@@ -29,7 +29,7 @@ pub fn apply(alloc: Global, patch: &Patch, text: &LineText) -> Result<LineText, 
 
 // Whether the new text has more units than a text may have.
 fn is_too_long(patch: &Patch, text: &LineText) -> bool
-    ensures { IsTrue result ↔ (2 ^ 24 < length (applied patch.now.changes text.now)) }
+    ensures { IsTrue result ↔ (MAX_UNITS < length (applied patch.now.changes text.now)) }
 {
     let mut len = 0;
     let mut read = 0;
