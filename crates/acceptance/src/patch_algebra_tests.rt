@@ -1,5 +1,6 @@
 //! Patches as functions on texts: fits, apply, compose.
-ghost use Rattle.std.specs.Prelude.{ℕ, List, IfOk};
+ghost use Rattle.std.specs.Prelude.{◌≡◌, ℕ, List, [], IfOk};
+ghost use Rattle.points.specs.Point.{origin};
 ghost use Rattle.patch.specs.Fit.{Fits};
 
 use crate::patch_cases::{Row, has_changes, patch_of};
@@ -11,7 +12,7 @@ use line_text::LineText;
 use patch::laws::some_text_fits;
 use patch::{Change, Patch, PatchRefusal};
 use patch_algebra::{ApplyRefusal, apply, compose, fits, laws};
-use points::MAX_COORD;
+use points::{MAX_COORD, Point, Range, Units};
 use std::alloc::Global;
 use std::test::Fail;
 
@@ -86,11 +87,11 @@ fn composed_on(
     text: &LineText,
 ) -> Result<Patch, Fail> {
     let between = apply(alloc, first, text)?;
-    if !fits(second, &between) {
-        Err("the text between doesn't fit the second patch")?;
-    }
     laws::composed_alike(first, second);
-    Ok(compose(alloc, first, second)?)
+    if fits(second, &between) {
+        return Ok(compose(alloc, first, second)?);
+    }
+    Ok(Err("the text between doesn't fit the second patch")?)
 }
 
 // Whether the patches of these rows, the second on what the first makes of the text, compose to those.
@@ -141,14 +142,28 @@ fn then_line_feed(alloc: Global, first: &Patch) -> Result<Option<PatchRefusal>, 
     Ok(compose(alloc, first, &second).err())
 }
 
-// The patch of a line feed before all else.
+// A line feed put in at the start of the text.
+fn line_feed(alloc: Global) -> Result<Change, Fail>
+    ensures start { IfOk result (λ change. (change.old_range.start ≡ origin) × (change.old_range.end ≡ origin)) }
+    ensures text { IfOk result (λ change. change.old_text ≡ []) }
+{
+    let start = Point { row: 0, column: 0 };
+    let behind = Point { row: 1, column: 0 };
+    Ok(Change {
+        old_range: Range::new(start, start),
+        new_range: Range::new(start, behind),
+        old_text: Units::new(alloc),
+        new_text: Units::from_str(alloc, "\n")?,
+    })
+}
+
+// The patch of a line feed before all else, which fits every text.
 fn line_feed_first(alloc: Global) -> Result<Patch, Fail>
     ensures { IfOk result (λ patch. (s : List ℕ) → Fits patch.changes s) }
 {
-    let mut patch = Patch::new(alloc);
-    some_text_fits(&patch);
-    patch.splice(points::Point { row: 0, column: 0 }, &[], &[10])?;
-    Ok(patch)
+    let mut list = Vec::new(alloc);
+    list.push(line_feed(alloc)?)?;
+    Ok(Patch::from_changes(list)?)
 }
 
 #[test]

@@ -7,6 +7,7 @@ use std::test::Fail;
 /// A change: its old range by row and column and its old text, and the same on the new side.
 pub type Row = ([u32; 4], &'static str, [u32; 4], &'static str);
 
+/// The point with these coordinates.
 pub fn at(row: u32, column: u32) -> Point {
     Point { row, column }
 }

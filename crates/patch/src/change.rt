@@ -2,7 +2,7 @@
 //! that stand in a row.
 ghost use Rattle.std.specs.Prelude.{◌≡◌};
 ghost use Rattle.std.specs.Iterator.{YieldsFirstBy, item_count};
-ghost use Rattle.patch.specs.Hunk.{hunk_seen, hunks_of};
+ghost use Rattle.patch.specs.Hunk.{hunk_seen};
 
 use points::{Range, Units};
 use std::marker::Model;
@@ -46,7 +46,7 @@ impl Change {
 /// The changes of a patch in order, each with its texts lent.
 #[derive(Drop)]
 pub struct Changes<'a> {
-    rest: &'a [Change],
+    pub(crate) rest: &'a [Change],
 }
 
 impl<'a> Model for Changes<'a> {
@@ -56,15 +56,6 @@ impl<'a> Model for Changes<'a> {
     ghost Value = { List Hunk };
 
     ghost view = { λ s. hunks_of s.rest.now };
-}
-
-impl<'a> Changes<'a> {
-    // The changes of a list.
-    pub(crate) fn of(changes: &'a [Change]) -> Self
-        ensures { result ≡ hunks_of changes.entry.now }
-    {
-        Changes { rest: changes }
-    }
 }
 
 impl<'a> Iterator for Changes<'a> {

@@ -77,7 +77,9 @@ impl Patch {
     pub fn changes(&self) -> Changes<'_>
         ensures { result ≡ self.now.changes }
     {
-        Changes::of(self.as_slice())
+        Changes {
+            rest: self.as_slice(),
+        }
     }
 
     /// The change at an index, lent.
