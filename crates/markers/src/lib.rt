@@ -13,8 +13,6 @@ pub mod laws;
 mod movement;
 mod refusal;
 mod search;
-#[cfg(test)]
-mod tests;
 mod wanted;
 
 pub use hits::Hits;

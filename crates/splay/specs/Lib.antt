@@ -3,7 +3,7 @@ pub mod Tree
 pub mod Nodes
 pub mod Sums
 pub mod Places
-pub mod Joins
+pub mod Roots
 pub mod Splay
 pub mod Changes
 pub mod Reads

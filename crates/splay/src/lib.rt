@@ -1,5 +1,6 @@
-//! A splay tree of measured values: a list that is cut, joined, changed and searched by a sum, each in
-//! amortized logarithmic time.
+//! A splay tree of measured values: a list that is changed and searched by a sum. An insertion, a removal and a
+//! search take amortized logarithmic time; a cut and a join move the items of the smaller part one by one.
+//! docs/tree.md tells how the tree lies in memory.
 #![tactic(auto)]
 
 mod change;
@@ -7,14 +8,14 @@ mod cut;
 mod join;
 mod measure;
 mod parts;
+mod pour;
+mod reads;
+mod roots;
 mod rotate;
 mod seek;
 mod splay;
 mod steps;
 mod store;
-#[cfg(test)]
-mod tests;
-mod uncounted;
 
 pub use measure::{Measure, Seek};
 pub use splay::Splay;
