@@ -11,4 +11,5 @@ pub mod RootLemmas
 pub mod RootCalls
 pub mod ChangeCalls
 pub mod SplayLemmas
+pub mod OrderLemmas
 pub mod CutLemmas

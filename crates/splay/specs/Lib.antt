@@ -3,6 +3,7 @@ pub mod Tree
 pub mod Nodes
 pub mod Sums
 pub mod Places
+pub mod Order
 pub mod Roots
 pub mod Splay
 pub mod Changes

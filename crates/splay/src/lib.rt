@@ -5,6 +5,7 @@
 
 mod change;
 mod cut;
+mod iter;
 mod join;
 mod measure;
 mod parts;
@@ -17,6 +18,7 @@ mod splay;
 mod steps;
 mod store;
 
+pub use iter::Iter;
 pub use measure::{Measure, Seek};
 pub use splay::Splay;
 pub use steps::Steps;
