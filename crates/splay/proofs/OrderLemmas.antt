@@ -1,15 +1,34 @@
 -- Ways from a node to the next one in the order of their items.
 use Rattle.std.proofs.Common.{◌≡◌, ◌≢◌, ℕ, zero, suc, ◌+◌, ◌≤◌, ◌<◌, List, [], ◌∷◌, ◌++◌, length, take, drop, Some, None, Option, option_map, option_and_then, slice_get, refl, sym, ap, ◌∙◌, subst, arith, length-append, append_assoc, append-nil}
-use Rattle.std.proofs.lemmas.Option.{slice_get_within, slice_get_past}
+use Rattle.std.proofs.lemmas.Option.{slice_get_within, slice_get_past, same_Some, none-some}
 use Rattle.splay.specs.Tree.{NIL, Tree, Way, Leaf, Fork, Top, LeftOf, RightOf, flat, root_of, before, after, above, depth}
 use Rattle.splay.specs.Nodes.{link_at, item_at, Zipped}
 use Rattle.splay.specs.Places.{Stands}
+use Rattle.splay.specs.Splay.{items_of, IsSound}
 use Rattle.splay.specs.Order.{StandsFirst, IsFirstBelow, IsFirstBehind, IsNext, IsFirst, IsAt}
 use Rattle.splay.proofs.TreeLemmas.{hit-same, root-apart}
 use Rattle.splay.proofs.LiftCalls.{link_read, none_read}
+use Rattle.splay.proofs.SplayLemmas.{items_of-zipped}
 use Rattle.splay.proofs.Zip.{up_left, up_right, down_left, down_right}
 use Rattle.splay.specs.declared.store.Link.{Link}
 use Rattle.splay.specs.declared.store.Node.{Node}
+
+module _ {X : Type 0} where
+  same_head : (x y : X) (xs ys : List X) → x ∷ xs ≡ y ∷ ys → x ≡ y
+  same_head x y xs ys e = cc
+
+  same_tail : (x y : X) (xs ys : List X) → x ∷ xs ≡ y ∷ ys → xs ≡ ys
+  same_tail x y xs ys e = cc
+
+  take_suc : (xs : List X) (n : ℕ) (y : X) (ys : List X) → drop n xs ≡ y ∷ ys → (take (suc n) xs ≡ take n xs ++ y ∷ []) × (drop (suc n) xs ≡ ys)
+  take_suc [] zero y ys e = cc
+  take_suc [] (suc n) y ys e = cc
+  take_suc (x ∷ xs) zero y ys e = (ap (λ z. z ∷ []) (same_head x y xs ys e), same_tail x y xs ys e)
+  take_suc (x ∷ xs) (suc n) y ys e = let k = take_suc xs n y ys e in (ap (λ zs. x ∷ zs) k.0, k.1)
+
+  -- the next element comes from the back of a list to its front
+  take_next : (xs : List X) (n : ℕ) (y : X) (ys : List X) → drop n xs ≡ y ∷ ys → (take (n + 1) xs ≡ take n xs ++ y ∷ []) × (drop (n + 1) xs ≡ ys)
+  take_next xs n y ys e = let one : n + 1 ≡ suc n = omega arith in rw one (take_suc xs n y ys e)
 
 module _ {M V : Type 0} (unit : M) (add : M → M → M) (weight : M → ℕ) where
   -- a node that lies in the nodes is read
@@ -208,3 +227,61 @@ module _ {M V : Type 0} (unit : M) (add : M → M → M) (weight : M → ℕ) wh
   pub first_none : (nodes : List (Node M V)) (root : ℕ) → root ≡ NIL → IsFirst unit add weight nodes root NIL
   first_none nodes root none Leaf aside spare z e = refl
   first_none nodes root none (Fork i m v l r) aside spare z e = absurd (omega (arith, e, none, slice_get_within nodes i _ z.here.0, z.small))
+
+  -- what a step along the items finds, and what is left then
+  record Steps (nodes : List (Node M V)) (y : ℕ) (front rest : List (M × V)) (item : M × V) (aside : Tree M V) (spare : List ℕ) : Type 0 where
+    others : List (M × V)
+    rest_is : rest ≡ item ∷ others
+    next : StandsFirst unit add weight nodes y (front ++ item ∷ []) others aside spare
+
+  step_at : (nodes : List (Node M V)) (here y : ℕ) (front rest : List (M × V)) (item : M × V) (aside : Tree M V) (spare : List ℕ) → length nodes ≤ NIL → StandsFirst unit add weight nodes here front rest aside spare → item_at nodes here ≡ Some item → IsNext unit add weight nodes here y → Steps nodes y front rest item aside spare
+  step_at nodes here y front [] item aside spare few s e h =
+      let past = ap (λ o. option_and_then (λ k. option_map (λ v. (k.link.own, v)) k.value) o) (slice_get_past nodes NIL few) in
+      let none : item_at nodes here ≡ None = ap (λ i. item_at nodes i) s ∙ past in
+      absurd (none-some _ (sym none ∙ e))
+  step_at nodes here y front (x ∷ back) item aside spare few s e h =
+      let read = ap (λ o. option_and_then (λ k. option_map (λ v. (k.link.own, v)) k.value) o) s.1.zipped.here.0 in
+      let same : x ≡ item = same_Some x item (sym read ∙ e) in
+      record {
+        others = back;
+        rest_is = ap (λ z. z ∷ back) same;
+        next = subst (λ z. StandsFirst unit add weight nodes y (front ++ z ∷ []) back aside spare) same (h front x.0 x.1 back aside spare s.0 s.1);
+      }
+
+  pub steps_next : (nodes : List (Node M V)) (root at here y : ℕ) (item : M × V) → IsAt unit add weight nodes root at here → item_at nodes here ≡ Some item → IsNext unit add weight nodes here y → IsAt unit add weight nodes root (at + 1) y
+  steps_next nodes root at here y item s e h =
+      let k = step_at nodes here y (take at (flat s.tree)) (drop at (flat s.tree)) item Leaf s.spare (omega (arith, s.zipped.small)) s.next e h in
+      let n = take_next (flat s.tree) at item k.others k.rest_is in
+      record {
+        tree = s.tree;
+        spare = s.spare;
+        zipped = s.zipped;
+        root_is = s.root_is;
+        next = rw (n.0, n.1) k.next;
+      }
+
+  pub steps_left : (nodes : List (Node M V)) (root at here y : ℕ) (item : M × V) → IsAt unit add weight nodes root at here → item_at nodes here ≡ Some item → IsNext unit add weight nodes here y → drop at (items_of nodes root) ≡ item ∷ drop (at + 1) (items_of nodes root)
+  steps_left nodes root at here y item s e h =
+      let k = step_at nodes here y (take at (flat s.tree)) (drop at (flat s.tree)) item Leaf s.spare (omega (arith, s.zipped.small)) s.next e h in
+      let n = take_next (flat s.tree) at item k.others k.rest_is in
+      rw (items_of-zipped unit add weight nodes root s.tree s.spare s.zipped s.root_is, n.1) k.rest_is
+
+  end_at : (nodes : List (Node M V)) (here : ℕ) (front rest : List (M × V)) (aside : Tree M V) (spare : List ℕ) → StandsFirst unit add weight nodes here front rest aside spare → item_at nodes here ≡ None → rest ≡ []
+  end_at nodes here front [] aside spare s e = refl
+  end_at nodes here front (x ∷ back) aside spare s e =
+      let read = ap (λ o. option_and_then (λ k. option_map (λ v. (k.link.own, v)) k.value) o) s.1.zipped.here.0 in
+      absurd (none-some _ (sym e ∙ read))
+
+  pub steps_end : (nodes : List (Node M V)) (root at here : ℕ) → IsAt unit add weight nodes root at here → item_at nodes here ≡ None → drop at (items_of nodes root) ≡ []
+  steps_end nodes root at here s e =
+      rw (items_of-zipped unit add weight nodes root s.tree s.spare s.zipped s.root_is) (end_at nodes here (take at (flat s.tree)) (drop at (flat s.tree)) Leaf s.spare s.next e)
+
+  -- the first place of a sound tree
+  pub steps_start : (nodes : List (Node M V)) (root free spare y : ℕ) → IsSound unit add weight nodes root free spare → IsFirst unit add weight nodes root y → IsAt unit add weight nodes root 0 y
+  steps_start nodes root free spare y s h = record {
+    tree = s.tree;
+    spare = s.spares;
+    zipped = s.zipped;
+    root_is = s.root_is;
+    next = h s.tree Leaf s.spares s.zipped s.root_is;
+  }

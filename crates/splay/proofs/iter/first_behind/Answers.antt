@@ -14,7 +14,7 @@ returns-in_default g c =
 pub returns-in_default-find : goal.returns-in_default-find
 returns-in_default-find g c =
     λ m v l r w aside spare z.
-    climbs_top g.M.Measure.unit g.M.Measure.add g.M.Measure.weight c.args.store.now c.loop-level.below c.loop-level._level (before w ++ (flat l ++ (m, v) ∷ flat r)) (after w) aside spare c.in-Some.low (c.loop-level.invariant m v l r w aside spare z) (sym c.in-Some.ensures) (sym c.find-2.ensures ∙ c.in_default-find.is)
+    climbs_top g.M.Measure.unit g.M.Measure.add g.M.Measure.weight c.args.store.now c.loop-level.below c.loop-level._level (before w ++ (flat l ++ (m, v) ∷ flat r)) (after w) aside spare c.in-Some.low (c.loop-level.invariant m v l r w aside spare z) (sym c.in-Some.ensures) (sym c.find-in-loop-level.ensures ∙ c.in_default-find.is)
 
 pub returns-then-high-below : goal.returns-then-high-below
 returns-then-high-below g c =

@@ -8,5 +8,5 @@ returns-in_default g c = next_none g.M.Measure.unit g.M.Measure.add g.M.Measure.
 pub returns-then-link : goal.returns-then-link
 returns-then-link g c = next_up g.M.Measure.unit g.M.Measure.add g.M.Measure.weight c.args.store.now c.args.x c.first_behind.result c.in-Some.link c.first_behind.ensures (sym c.in-Some.ensures) c.if-link.true
 
-pub returns-else-link : goal.returns-else-link
-returns-else-link g c = next_down g.M.Measure.unit g.M.Measure.add g.M.Measure.weight c.args.store.now c.args.x c.first_below.result c.in-Some.link c.first_below.ensures (sym c.in-Some.ensures) c.if-link.false
+pub returns : goal.returns
+returns g c = next_down g.M.Measure.unit g.M.Measure.add g.M.Measure.weight c.args.store.now c.args.x c.first_below.result c.in-Some.link c.first_below.ensures (sym c.in-Some.ensures) c.if-link.false
