@@ -1,7 +1,12 @@
-//! Tests of the other crates, one module a crate. They stand here so that each crate below is proved once.
+//! Tests of the base crates, and tests that cross crates: no code of its own. A crate whose tests stand
+//! here is proved once, and not a second time with its tests.
 #![tactic(auto)]
 
 #[cfg(test)]
+mod line_text_tests;
+#[cfg(test)]
 mod markers_tests;
+#[cfg(test)]
+mod points_tests;
 #[cfg(test)]
 mod splay_tests;
