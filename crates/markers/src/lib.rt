@@ -6,6 +6,7 @@
 #![tactic(auto)]
 
 mod edits;
+mod finds;
 mod fits;
 mod hits;
 mod index;
@@ -15,7 +16,6 @@ mod refusal;
 mod search;
 mod wanted;
 
-pub use hits::Hits;
-pub use index::{MAX_MARKS, MarkerIndex};
-pub use points::{HitCounts, MarkOrder};
+pub use index::MarkerIndex;
+pub use points::{HitCounts, Hits, Ids, MAX_MARKS, MarkOrder};
 pub use refusal::{MarkUnknown, MarkerRefusal};

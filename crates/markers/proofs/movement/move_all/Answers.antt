@@ -6,7 +6,7 @@ use Rattle.points.specs.MarkList.{MarkIsWithin}
 use Rattle.markers.specs.Index.{IsIndex}
 use Rattle.markers.proofs.MoveLemmas.{moved_within, moved_whole}
 use Rattle.markers.proofs.IndexLemmas.{index-moved}
-use Rattle.markers.proofs.edits.move_all.Goals as goal
+use Rattle.markers.proofs.movement.move_all.Goals as goal
 
 pub moved-requires : goal.moved-requires
 moved-requires c = subst (λ (m : Mark). MarkIsWithin 1073741824 (moved c.args.splice m)) (sym c.index.ensures)
