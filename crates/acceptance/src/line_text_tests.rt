@@ -131,6 +131,12 @@ fn finds_points_and_offsets(rt: HostRuntime) -> Result<(), Fail> {
     for point in [at(0, 4), at(1, 3), at(2, 1), at(3, 0)] {
         assert!(rt; text.offset_of(point).is_none(), "at {point:?}");
     }
+    Ok(())
+}
+
+#[test]
+fn clips_points(rt: HostRuntime) -> Result<(), Fail> {
+    let text = made(rt.alloc(), "ab\r\n\rc\n")?;
     let clipped = [
         (at(0, 9), at(0, 2)),
         (at(0, 3), at(0, 2)),
