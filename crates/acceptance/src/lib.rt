@@ -5,6 +5,8 @@
 #[cfg(test)]
 mod line_text_tests;
 #[cfg(test)]
+mod markers_tests;
+#[cfg(test)]
 mod patch_algebra_tests;
 #[cfg(test)]
 mod patch_cases;
@@ -12,6 +14,8 @@ mod patch_cases;
 mod patch_tests;
 #[cfg(test)]
 mod points_tests;
+#[cfg(test)]
+mod splay_tests;
 #[cfg(test)]
 mod splice_runs_tests;
 #[cfg(test)]

@@ -8,11 +8,13 @@
 mod edit;
 mod encode;
 mod ending;
+mod lookup;
 mod refusal;
 mod rows;
 mod text;
 
+pub use edit::Replaced;
 pub use ending::Ending;
 pub use refusal::TextRefusal;
 pub use rows::splits_pair;
-pub use text::{LineText, MAX_UNITS, Replaced};
+pub use text::LineText;

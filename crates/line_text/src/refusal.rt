@@ -1,3 +1,4 @@
+//! Why a text is refused.
 ghost use Rattle.std.specs.Prelude.{◌≡◌};
 ghost use Rattle.line_text.specs.declared.refusal.TextRefusal.TheVariants.{NoMemory as no_memory};
 
@@ -7,7 +8,7 @@ use thiserror::Error;
 /// Why a text was not made or not edited. It is then as it was.
 #[derive(Clone, Copy, Debug, PartialEq, Eq, Error)]
 pub enum TextRefusal {
-    /// It would have more than [`MAX_UNITS`](crate::MAX_UNITS) units.
+    /// It would have more than [`MAX_UNITS`](points::MAX_UNITS) units.
     #[error("the text would be too long")]
     TooLong,
     /// There was no memory for it.
