@@ -1,9 +1,9 @@
 -- Where a change's old text stands: between the offsets of its old range's ends, if anywhere.
-use Rattle.std.proofs.Common.{◌≡◌, ℕ, suc, zero, ◌+◌, ◌-◌, ◌<◌, ◌≤◌, List, [], ◌∷◌, length, take, drop, get_or, slice_range, slice_get, Bool, true, false, not, Option, Some, None, refl, sym, ap, ◌∙◌, subst, inl, inr, arith, length-drop, IsTrue, ◌↔◌, MatchBool, MatchOption}
+use Rattle.std.proofs.Common.{◌≡◌, ℕ, ◌+◌, ◌-◌, ◌<◌, ◌≤◌, List, [], length, take, drop, slice_range, Bool, true, false, not, Option, Some, None, refl, sym, ap, ◌∙◌, arith, length-drop, IsTrue, ◌↔◌, MatchBool, MatchOption}
 use Rattle.std.specs.List.{AllWithin, HoldsAt}
 use Rattle.std.specs.Option.{is_some}
 use Rattle.std.proofs.lemmas.List.{length-take-le}
-use Rattle.std.proofs.lemmas.Bool.{cases_eq, false≢true, not-true, not-false}
+use Rattle.std.proofs.lemmas.Bool.{false≢true, not-true, not-false}
 use Rattle.points.specs.declared.point.Point.{Point}
 use Rattle.points.specs.Place.{point_at, offset_of}
 use Rattle.points.proofs.OffsetLemmas.{offset_of-at, offset_of-some}
