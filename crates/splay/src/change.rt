@@ -12,6 +12,7 @@ use crate::seek::{Found, node_at, search};
 use crate::splay::Splay;
 use crate::steps::Steps;
 use crate::store::{NIL, Store, count_of};
+use points::MAX_NODES;
 use std::sync::ledger::Ledger;
 
 impl<M: Measure, V> Splay<M, V> {
@@ -57,7 +58,7 @@ impl<M: Measure, V: Drop> Splay<M, V> {
         steps: &mut Steps<L>,
     ) -> Result<(), V>
         requires place { at ≤ length self.old.items }
-        requires few { length self.old.items < 2 ^ 24 }
+        requires few { length self.old.items < MAX_NODES }
         requires light { load M.weight self.old.items + M.weight measure ≤ 2 ^ 62 }
         ensures ok { OnOk result (self.new.items ≡ take at self.old.items ++ (measure, value) ∷ drop at self.old.items) }
         ensures spare { OnOk result (self.new.spare ≡ self.old.spare - 1) }

@@ -1,7 +1,7 @@
 //! Random calls on a tree and on a plain list, at any measure that is drawn at random and added up without a tree.
 ghost use Rattle.std.specs.Prelude.{◌≡◌, ◌<◌};
 
-use super::calls::{finds, parted, put, rejoined, sum_to, take_at};
+use super::calls::{finds, parted, put, rejoined, shows, sum_to, take_at};
 use super::measures::{Below, Count, Extent, NewBefore, Sides};
 use splay::{Measure, Seek, Splay, Steps};
 use std::alloc::Global;
@@ -116,8 +116,12 @@ fn next(state: &mut u32) -> u32 {
     *state / 65536
 }
 
-// Whether a tree has these values' items.
+// Whether a tree has these values' items, one by one and in a run.
 fn holds<M: Drawn>(tree: &Splay<M, u32>, plain: &[u32]) -> bool {
+    shows(tree, plain) && holds_each(tree, plain)
+}
+
+fn holds_each<M: Drawn>(tree: &Splay<M, u32>, plain: &[u32]) -> bool {
     for at in 0..plain.len() {
         if !has_item(tree, at, plain[at]) {
             return false;
