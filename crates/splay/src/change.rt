@@ -49,7 +49,8 @@ impl<M: Measure, V> Splay<M, V> {
 }
 
 impl<M: Measure, V: Drop> Splay<M, V> {
-    /// Puts an item before the one at a place, or behind all. It takes memory only where no node is spare; the value comes back where there is none left.
+    /// Puts an item before the one at a place, or behind all. It takes memory only where no node is spare; the value
+    /// comes back where there is none left.
     pub fn insert_at<L: Ledger>(
         &mut self,
         at: usize,

@@ -64,7 +64,8 @@ fn move_front<M: Measure, V: Drop, L: Ledger>(
     }
 }
 
-/// Moves up to `count` items from the end of `left` to the front of `right`. Answers how many it moved; fewer only for want of memory.
+/// Moves up to `count` items from the end of `left` to the front of `right`. Answers how many it moved; fewer only for
+/// want of memory.
 pub(crate) fn pour_back<M: Measure, V: Drop, L: Ledger>(
     left: &mut Splay<M, V>,
     right: &mut Splay<M, V>,
@@ -89,7 +90,8 @@ pub(crate) fn pour_back<M: Measure, V: Drop, L: Ledger>(
     count
 }
 
-/// Moves up to `count` items from the front of `right` to the end of `left`. Answers how many it moved; fewer only for want of memory.
+/// Moves up to `count` items from the front of `right` to the end of `left`. Answers how many it moved; fewer only for
+/// want of memory.
 pub(crate) fn pour_front<M: Measure, V: Drop, L: Ledger>(
     left: &mut Splay<M, V>,
     right: &mut Splay<M, V>,
