@@ -1,4 +1,4 @@
-//! The tree at a count and at a pair of extents: small cases by hand, and random calls beside a plain list.
+//! The tree at a count and at a pair of distances: small cases by hand, and random calls beside a plain list.
 ghost use Rattle.std.specs.Prelude.{◌≡◌, ◌<◌};
 
 mod calls;
@@ -6,7 +6,8 @@ mod measures;
 mod random;
 
 use calls::{finds, parted, put, rejoined, shows, sum_to, take_at};
-use measures::{Below, Count, Extent, NewBefore, Sides};
+use measures::{Below, Count, NewBefore, Sides};
+use points::Distance;
 use random::agrees;
 use splay::{Splay, Steps};
 use std::alloc::Global;
@@ -16,8 +17,8 @@ use std::sync::ledger::{Blank, Ledger};
 /// A tree of counts whose values tell which is which.
 type Counts = Splay<Count, u32>;
 
-/// A tree of extents on two sides.
-type Changes = Splay<Sides<Extent>, u32>;
+/// A tree of distances on two sides.
+type Changes = Splay<Sides<Distance>, u32>;
 
 // Inserts items by their place and their count, which is their value too.
 fn filled<L: Ledger>(tree: &mut Counts, items: &[(usize, u32)], steps: &mut Steps<L>) -> bool {
@@ -127,16 +128,16 @@ fn found<L: Ledger>(alloc: Global, blank: Blank) -> bool
     true
 }
 
-// The extents of both sides, each by its row and its column.
-fn two_sides(old: (u64, u64), new: (u64, u64)) -> Sides<Extent> {
+// The distances of both sides, each by its row and its column.
+fn two_sides(old: (u64, u64), new: (u64, u64)) -> Sides<Distance> {
     Sides {
-        old: Extent {
-            row: old.0,
-            column: old.1,
+        old: Distance {
+            rows: old.0,
+            columns: old.1,
         },
-        new: Extent {
-            row: new.0,
-            column: new.1,
+        new: Distance {
+            rows: new.0,
+            columns: new.1,
         },
     }
 }
@@ -149,7 +150,7 @@ fn three_changes<L: Ledger>(tree: &mut Changes, steps: &mut Steps<L>) -> bool {
         && shows(tree, &[0, 2, 1])
 }
 
-// Whether the sum before a place has these extents.
+// Whether the sum before a place has these distances.
 fn sum_is(tree: &Changes, at: usize, old: (u64, u64), new: (u64, u64)) -> bool {
     sum_to(tree, at) == Some(two_sides(old, new))
 }
@@ -162,7 +163,10 @@ fn ends_before<L: Ledger>(
     want: usize,
     steps: &mut Steps<L>,
 ) -> bool {
-    let seek = NewBefore(Extent { row, column });
+    let seek = NewBefore(Distance {
+        rows: row,
+        columns: column,
+    });
     finds(tree, &seek, want, steps)
 }
 
@@ -215,9 +219,9 @@ fn agrees_with_a_plain_list_by_counts(rt: HostRuntime) {
 }
 
 #[test]
-fn agrees_with_a_plain_list_by_extents(rt: HostRuntime) {
+fn agrees_with_a_plain_list_by_distances(rt: HostRuntime) {
     assert_eq!(rt;
-        agrees::<Sides<Extent>, Brand>(rt.alloc(), Blank::new(1)),
+        agrees::<Sides<Distance>, Brand>(rt.alloc(), Blank::new(1)),
         1000
     );
 }

@@ -18,7 +18,7 @@ impl MarkerIndex {
         let Err(at) = place_of(self.marks.as_slice(), id) else {
             return Err(MarkerRefusal::MarkTaken);
         };
-        if self.marks.len() == MAX_MARKS {
+        if self.is_full() {
             return Err(MarkerRefusal::MarksFull);
         }
         let mark = Mark {

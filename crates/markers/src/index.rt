@@ -1,8 +1,8 @@
 //! The index: marks in rising order of ids.
-ghost use Rattle.std.specs.Prelude.{◌≡◌, [], length};
+ghost use Rattle.std.specs.Prelude.{◌≡◌, ◌↔◌, [], length, IsTrue};
 ghost use Rattle.markers.specs.Index.{IsIndex};
 
-use points::Mark;
+use points::{MAX_MARKS, Mark};
 use std::alloc::Global;
 use std::marker::Model;
 
@@ -40,5 +40,12 @@ impl MarkerIndex {
         ensures index { IsIndex self.now }
     {
         self.marks.len()
+    }
+
+    // Whether there are as many marks as there may be.
+    pub(crate) fn is_full(&self) -> bool
+        ensures { IsTrue result ↔ (length self.now ≡ MAX_MARKS) }
+    {
+        self.marks.len() == MAX_MARKS
     }
 }

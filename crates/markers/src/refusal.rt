@@ -1,3 +1,4 @@
+//! Why a call on marks was refused.
 use thiserror::Error;
 
 /// Why a mark was not inserted.

@@ -1,4 +1,5 @@
 pub mod Items
+pub mod Distances
 pub mod Tree
 pub mod Nodes
 pub mod Sums

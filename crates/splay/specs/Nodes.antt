@@ -1,5 +1,6 @@
 -- How trees and spare nodes lie in the list of nodes.
 use Rattle.std.specs.Prelude.{◌≡◌, ℕ, ◌+◌, ◌≤◌, ◌^◌, List, [], ◌∷◌, ◌++◌, length, slice_get, slice_set, Option, Some, None, option_map, option_and_then, cond, eqb}
+use Rattle.points.specs.declared.limits.TheConstants.{MAX_NODES}
 use Rattle.splay.specs.Items.{load, total}
 use Rattle.splay.specs.Tree.{NIL, Tree, Way, Leaf, Fork, Top, LeftOf, RightOf, times, flat, root_of, uses, before, after, above, uses_way}
 use Rattle.splay.specs.declared.store.Tally.{Tally}
@@ -99,5 +100,5 @@ module _ {M V : Type 0} where
       pub free : AreSpare nodes spare
       pub once : (i : ℕ) → uses i t + uses_way i w + uses i aside + times i spare ≤ 1
       pub counted : length (before w) + length (flat t) + length (after w) + length (flat aside) + length spare ≡ length nodes
-      pub small : length nodes ≤ 16777216
+      pub small : length nodes ≤ MAX_NODES
       pub light : load weight (before w) + load weight (flat t) + load weight (after w) + load weight (flat aside) ≤ 2 ^ 62

@@ -1,5 +1,6 @@
 -- Trees put together and taken apart at their roots.
 use Rattle.std.specs.Prelude.{◌≡◌, ℕ, ◌+◌, ◌-◌, ◌≤◌, ◌<◌, ◌^◌, List, ◌∷◌, ◌++◌, length, Option, Some}
+use Rattle.points.specs.declared.limits.TheConstants.{MAX_NODES}
 use Rattle.splay.specs.Items.{load}
 use Rattle.splay.specs.Tree.{Tree, Leaf, Fork, Top, flat, root_of}
 use Rattle.splay.specs.Nodes.{Zipped, first_of}
@@ -20,7 +21,7 @@ module _ {M V : Type 0} (unit : M) (add : M → M → M) (weight : M → ℕ) wh
       (t : Tree M V) (spare : List ℕ)
       → Zipped unit add weight old t Top Leaf spare
       → first_of spare ≡ free
-      → length (flat t) < 16777216
+      → length (flat t) < MAX_NODES
       → load weight (flat t) + weight m ≤ 2 ^ 62
       → (rest : List ℕ) × Zipped unit add weight new t Top (Fork x m v Leaf Leaf) rest × (first_of rest ≡ next) × (length rest ≡ length spare - 1)
 

@@ -12,6 +12,7 @@ use crate::seek::{Found, node_at, search};
 use crate::splay::Splay;
 use crate::steps::Steps;
 use crate::store::{NIL, Store, count_of};
+use points::MAX_NODES;
 use std::sync::ledger::Ledger;
 
 impl<M: Measure, V> Splay<M, V> {
@@ -48,7 +49,8 @@ impl<M: Measure, V> Splay<M, V> {
 }
 
 impl<M: Measure, V: Drop> Splay<M, V> {
-    /// Puts an item before the one at a place, or behind all. It takes memory only where no node is spare; the value comes back where there is none left.
+    /// Puts an item before the one at a place, or behind all. It takes memory only where no node is spare; the value
+    /// comes back where there is none left.
     pub fn insert_at<L: Ledger>(
         &mut self,
         at: usize,
@@ -57,7 +59,7 @@ impl<M: Measure, V: Drop> Splay<M, V> {
         steps: &mut Steps<L>,
     ) -> Result<(), V>
         requires place { at ≤ length self.old.items }
-        requires few { length self.old.items < 2 ^ 24 }
+        requires few { length self.old.items < MAX_NODES }
         requires light { load M.weight self.old.items + M.weight measure ≤ 2 ^ 62 }
         ensures ok { OnOk result (self.new.items ≡ take at self.old.items ++ (measure, value) ∷ drop at self.old.items) }
         ensures spare { OnOk result (self.new.spare ≡ self.old.spare - 1) }

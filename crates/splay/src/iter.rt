@@ -115,11 +115,7 @@ fn next_to<M: Measure, V, L: Ledger>(store: &Store<M, V>, x: u32, blank: Blank) 
 }
 
 // The node of the first item in the subtree at `x`: the last on the way down to the left.
-fn first_below<M: Measure, V, L: Ledger>(
-    store: &Store<M, V>,
-    x: u32,
-    steps: &mut Steps<L>,
-) -> u32
+fn first_below<M: Measure, V, L: Ledger>(store: &Store<M, V>, x: u32, steps: &mut Steps<L>) -> u32
     ensures { IsFirstBelow M.unit M.add M.weight store.now x result }
 {
     let mut here = x;
@@ -136,11 +132,7 @@ fn first_below<M: Measure, V, L: Ledger>(
 }
 
 // The node of the first item behind the subtree at `x`: the first above it whose left subtree it is in.
-fn first_behind<M: Measure, V, L: Ledger>(
-    store: &Store<M, V>,
-    x: u32,
-    steps: &mut Steps<L>,
-) -> u32
+fn first_behind<M: Measure, V, L: Ledger>(store: &Store<M, V>, x: u32, steps: &mut Steps<L>) -> u32
     ensures { IsFirstBehind M.unit M.add M.weight store.now x result }
 {
     let mut below = x;

@@ -7,6 +7,7 @@ use crate::measure::Measure;
 use crate::pour::{pour_back, pour_front};
 use crate::splay::Splay;
 use crate::steps::Steps;
+use points::MAX_NODES;
 use std::sync::ledger::Ledger;
 
 impl<M: Measure, V: Drop> Splay<M, V> {
@@ -17,7 +18,7 @@ impl<M: Measure, V: Drop> Splay<M, V> {
         other: Splay<M, V>,
         steps: &mut Steps<L>,
     ) -> Result<Splay<M, V>, (Splay<M, V>, Splay<M, V>)>
-        requires few { length self.items + length other.items ≤ 2 ^ 24 }
+        requires few { length self.items + length other.items ≤ MAX_NODES }
         requires light { load M.weight self.items + load M.weight other.items ≤ 2 ^ 62 }
         ensures ok { IfOk result (λ t. t.items ≡ self.items ++ other.items) }
         ensures kept_first { length other.items ≤ length self.items → IfOk result (λ t. t.spare ≡ self.spare - length other.items) }
@@ -39,7 +40,7 @@ fn join_left<M: Measure, V: Drop, L: Ledger>(
     second: Splay<M, V>,
     steps: &mut Steps<L>,
 ) -> Result<Splay<M, V>, (Splay<M, V>, Splay<M, V>)>
-    requires few { length first.items + length second.items ≤ 2 ^ 24 }
+    requires few { length first.items + length second.items ≤ MAX_NODES }
     requires light { load M.weight first.items + load M.weight second.items ≤ 2 ^ 62 }
     ensures ok { IfOk result (λ t. t.items ≡ first.items ++ second.items) }
     ensures kept { IfOk result (λ t. t.spare ≡ first.spare - length second.items) }
@@ -63,7 +64,7 @@ fn join_right<M: Measure, V: Drop, L: Ledger>(
     second: Splay<M, V>,
     steps: &mut Steps<L>,
 ) -> Result<Splay<M, V>, (Splay<M, V>, Splay<M, V>)>
-    requires few { length first.items + length second.items ≤ 2 ^ 24 }
+    requires few { length first.items + length second.items ≤ MAX_NODES }
     requires light { load M.weight first.items + load M.weight second.items ≤ 2 ^ 62 }
     ensures ok { IfOk result (λ t. t.items ≡ first.items ++ second.items) }
     ensures kept { IfOk result (λ t. t.spare ≡ second.spare - length first.items) }

@@ -5,6 +5,7 @@
 
 mod change;
 mod cut;
+mod distance;
 mod iter;
 mod join;
 mod measure;

@@ -1,3 +1,4 @@
+//! Measures, which a tree adds up over stretches of its list, and tests of such sums.
 ghost use Rattle.std.specs.Prelude.{◌≡◌, ℕ, ◌+◌, ◌≤◌, ◌^◌, Bool, false};
 
 /// What a value adds to the sums of a tree, as a count or an extent.

@@ -5,6 +5,7 @@ ghost use Rattle.splay.specs.Items.{load};
 use crate::measure::Measure;
 use crate::splay::Splay;
 use crate::steps::Steps;
+use points::MAX_NODES;
 use std::sync::ledger::Ledger;
 
 // Moves the last item of `left` to the front of `right`, or leaves both where there is no memory for it.
@@ -14,7 +15,7 @@ fn move_back<M: Measure, V: Drop, L: Ledger>(
     steps: &mut Steps<L>,
 ) -> bool
     requires some { 0 < length left.old.items }
-    requires few { length left.old.items + length right.old.items ≤ 2 ^ 24 }
+    requires few { length left.old.items + length right.old.items ≤ MAX_NODES }
     requires light { load M.weight left.old.items + load M.weight right.old.items ≤ 2 ^ 62 }
     ensures joined { left.new.items ++ right.new.items ≡ left.old.items ++ right.old.items }
     ensures moved { result ≡ true → length left.new.items + 1 ≡ length left.old.items }
@@ -42,7 +43,7 @@ fn move_front<M: Measure, V: Drop, L: Ledger>(
     steps: &mut Steps<L>,
 ) -> bool
     requires some { 0 < length right.old.items }
-    requires few { length left.old.items + length right.old.items ≤ 2 ^ 24 }
+    requires few { length left.old.items + length right.old.items ≤ MAX_NODES }
     requires light { load M.weight left.old.items + load M.weight right.old.items ≤ 2 ^ 62 }
     ensures joined { left.new.items ++ right.new.items ≡ left.old.items ++ right.old.items }
     ensures moved { result ≡ true → length right.new.items + 1 ≡ length right.old.items }
@@ -63,7 +64,8 @@ fn move_front<M: Measure, V: Drop, L: Ledger>(
     }
 }
 
-/// Moves up to `count` items from the end of `left` to the front of `right`. Answers how many it moved; fewer only for want of memory.
+/// Moves up to `count` items from the end of `left` to the front of `right`. Answers how many it moved; fewer only for
+/// want of memory.
 pub(crate) fn pour_back<M: Measure, V: Drop, L: Ledger>(
     left: &mut Splay<M, V>,
     right: &mut Splay<M, V>,
@@ -71,7 +73,7 @@ pub(crate) fn pour_back<M: Measure, V: Drop, L: Ledger>(
     steps: &mut Steps<L>,
 ) -> usize
     requires some { count ≤ length left.old.items }
-    requires few { length left.old.items + length right.old.items ≤ 2 ^ 24 }
+    requires few { length left.old.items + length right.old.items ≤ MAX_NODES }
     requires light { load M.weight left.old.items + load M.weight right.old.items ≤ 2 ^ 62 }
     ensures joined { left.new.items ++ right.new.items ≡ left.old.items ++ right.old.items }
     ensures moved { length left.new.items + result ≡ length left.old.items }
@@ -88,7 +90,8 @@ pub(crate) fn pour_back<M: Measure, V: Drop, L: Ledger>(
     count
 }
 
-/// Moves up to `count` items from the front of `right` to the end of `left`. Answers how many it moved; fewer only for want of memory.
+/// Moves up to `count` items from the front of `right` to the end of `left`. Answers how many it moved; fewer only for
+/// want of memory.
 pub(crate) fn pour_front<M: Measure, V: Drop, L: Ledger>(
     left: &mut Splay<M, V>,
     right: &mut Splay<M, V>,
@@ -96,7 +99,7 @@ pub(crate) fn pour_front<M: Measure, V: Drop, L: Ledger>(
     steps: &mut Steps<L>,
 ) -> usize
     requires some { count ≤ length right.old.items }
-    requires few { length left.old.items + length right.old.items ≤ 2 ^ 24 }
+    requires few { length left.old.items + length right.old.items ≤ MAX_NODES }
     requires light { load M.weight left.old.items + load M.weight right.old.items ≤ 2 ^ 62 }
     ensures joined { left.new.items ++ right.new.items ≡ left.old.items ++ right.old.items }
     ensures moved { length right.new.items + result ≡ length right.old.items }

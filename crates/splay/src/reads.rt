@@ -11,6 +11,7 @@ use crate::seek::{node_at, sum_before};
 use crate::splay::Splay;
 use crate::steps::Steps;
 use crate::store::{Store, count_of};
+use points::MAX_NODES;
 use std::marker::Brand;
 use std::sync::ledger::{Blank, Ledger};
 
@@ -18,7 +19,7 @@ impl<M: Measure, V> Splay<M, V> {
     /// How many items there are.
     pub fn len(&self) -> usize
         ensures value { result ≡ length self.now.items }
-        ensures few { result ≤ 2 ^ 24 }
+        ensures few { result ≤ MAX_NODES }
         ensures light { load M.weight self.now.items ≤ 2 ^ 62 }
     {
         count::<M, V, Brand>(&self.store, self.root, Blank::new(1))

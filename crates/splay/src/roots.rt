@@ -1,4 +1,4 @@
-//! Nodes put on top of trees and taken from them, and two trees made one.
+//! Nodes put on top of trees and taken from them, and two trees in the same nodes made one.
 ghost use Rattle.std.specs.Prelude.{◌≡◌, ℕ, ◌+◌, ◌<◌, ◌≤◌, ◌^◌, List, [], ◌∷◌, ◌++◌, length, Some, None, IfOk, OnErr, IfErr};
 ghost use Rattle.splay.specs.Tree.{NIL, Tree, Leaf, Fork, Top, flat, root_of};
 ghost use Rattle.splay.specs.Nodes.{Zipped, first_of};
@@ -28,7 +28,8 @@ pub(crate) struct Taken<M, V> {
     pub value: V,
 }
 
-/// Puts an item into the first spare node, or into a new one where none is spare. That may want memory, and then the value comes back.
+/// Puts an item into the first spare node, or into a new one where none is spare. That may want memory, and then the
+/// value comes back.
 pub(crate) fn occupy<M: Measure, V: Drop, L: Ledger>(
     store: &mut Store<M, V>,
     free: u32,

@@ -1,3 +1,4 @@
+//! The count of the nodes that calls visit.
 ghost use Rattle.std.specs.Prelude.{◌≡◌, ℕ, ◌+◌, ◌<◌};
 
 use std::marker::Model;

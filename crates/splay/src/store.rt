@@ -1,3 +1,5 @@
+//! The nodes of a tree in one vector, and the one place where they are read and written. Where a node may be missing, at
+//! `NIL` for one, a read answers nothing and a write does nothing.
 ghost use Rattle.std.specs.Prelude.{◌≡◌, ℕ, ◌+◌, ◌≤◌, List, [], ◌∷◌, ◌++◌, length, Option, Some, None, slice_get, slice_set, option_map, OnOk, OnErr, IfErr, option_and_then, cond, eqb};
 ghost use Rattle.splay.specs.Nodes.{with_node, item_at, link_at, tally_at, linked, moved_to, with_child, emptied};
 ghost use Rattle.splay.specs.Sums.{count_in};

@@ -14,6 +14,7 @@ pub struct RowMark {
     pub exclusive: bool,
 }
 
+/// A mark on the first row.
 pub fn row(id: u32, from: u32, to: u32, exclusive: bool) -> RowMark {
     RowMark {
         id,

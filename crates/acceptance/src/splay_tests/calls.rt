@@ -108,15 +108,12 @@ pub fn rejoined<M: Measure, V: Drop, L: Ledger>(
 
 /// Whether the tree has these values in order.
 pub fn shows<M: Measure>(tree: &Splay<M, u32>, values: &[u32]) -> bool {
-    for at in 0..values.len() {
-        match tree.get(at) {
-            Some((_, value)) => {
-                if *value != values[at] {
-                    return false;
-                }
-            }
-            None => return false,
+    let mut at = 0;
+    for (_, value) in tree.iter() {
+        if at >= values.len() || *value != values[at] {
+            return false;
         }
+        at += 1;
     }
-    tree.len() == values.len()
+    at == values.len()
 }

@@ -1,8 +1,9 @@
-//! The measures and the searches that the tests of the tree use: a count, and a pair of extents.
-ghost use Rattle.std.specs.Prelude.{◌≡◌, ℕ, ◌+◌, ◌-◌, ◌^◌, ◌==◌, ◌&&◌, ◌||◌, Bool, min, nat_lt, if◌then◌else◌};
+//! The measures and the searches that the tests of the tree use: a count, and a pair of distances.
+ghost use Rattle.std.specs.Prelude.{◌≡◌, ℕ, ◌+◌, ◌-◌, ◌^◌, ◌==◌, ◌&&◌, ◌||◌, Bool, min, nat_lt};
 ghost use Rattle.std.proofs.Common.{arith};
 ghost use Rattle.std.proofs.lemmas.Bool.Decides.{nat_tests};
 
+use points::Distance;
 use splay::{Measure, Seek};
 
 /// How much there is of something.
@@ -34,51 +35,6 @@ impl Measure for Count {
 
     fn add(&self, other: &Self) -> Self {
         Count(self.0 + other.0)
-    }
-}
-
-/// How far a stretch of text reaches: over so many rows, and to this column of the last.
-#[derive(Clone, Copy, Debug, PartialEq, Eq)]
-pub struct Extent {
-    pub row: u64,
-    pub column: u64,
-}
-
-impl Measure for Extent {
-    ghost unit = { record { row = 0; column = 0 } };
-
-    ghost weight = { λ a. min (a.row + a.column) (2 ^ 64 - 1) };
-
-    ghost add = { λ a b. if b.row == 0 then record { row = a.row; column = a.column + b.column } else record { row = a.row + b.row; column = b.column } };
-
-    ghost associative = { λ a b c. Prim.grind (arith, nat_tests) };
-
-    ghost unit_left = { λ a. Prim.grind (arith, nat_tests) };
-
-    ghost unit_right = { λ a. Prim.grind (arith, nat_tests) };
-
-    ghost lighter = { λ a b. Prim.grind (arith, nat_tests) };
-
-    fn unit() -> Self {
-        Extent { row: 0, column: 0 }
-    }
-
-    fn weight(&self) -> u64 {
-        self.row.saturating_add(self.column)
-    }
-
-    fn add(&self, other: &Self) -> Self {
-        if other.row == 0 {
-            Extent {
-                row: self.row,
-                column: self.column + other.column,
-            }
-        } else {
-            Extent {
-                row: self.row + other.row,
-                column: other.column,
-            }
-        }
     }
 }
 
@@ -139,14 +95,15 @@ impl Seek<Count> for Below {
 
 /// Passes sums that end before a point on the new side.
 #[derive(Drop)]
-pub struct NewBefore(pub Extent);
+pub struct NewBefore(pub Distance);
 
-impl Seek<Sides<Extent>> for NewBefore {
-    ghost passes = { λ s a. nat_lt a.new.row s.0.row || ((a.new.row == s.0.row) && nat_lt a.new.column s.0.column) };
+impl Seek<Sides<Distance>> for NewBefore {
+    ghost passes = { λ s a. nat_lt a.new.rows s.0.rows || ((a.new.rows == s.0.rows) && nat_lt a.new.columns s.0.columns) };
 
     ghost stays = { λ s a b h. Prim.grind (arith, nat_tests) };
 
-    fn passes(&self, sum: &Sides<Extent>) -> bool {
-        sum.new.row < self.0.row || (sum.new.row == self.0.row && sum.new.column < self.0.column)
+    fn passes(&self, sum: &Sides<Distance>) -> bool {
+        sum.new.rows < self.0.rows
+            || (sum.new.rows == self.0.rows && sum.new.columns < self.0.columns)
     }
 }

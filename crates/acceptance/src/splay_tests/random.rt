@@ -1,8 +1,9 @@
 //! Random calls on a tree and on a plain list, at any measure that is drawn at random and added up without a tree.
 ghost use Rattle.std.specs.Prelude.{◌≡◌, ◌<◌};
 
-use super::calls::{finds, parted, put, rejoined, sum_to, take_at};
-use super::measures::{Below, Count, Extent, NewBefore, Sides};
+use super::calls::{finds, parted, put, rejoined, shows, sum_to, take_at};
+use super::measures::{Below, Count, NewBefore, Sides};
+use points::Distance;
 use splay::{Measure, Seek, Splay, Steps};
 use std::alloc::Global;
 use std::mem;
@@ -43,49 +44,49 @@ impl Drawn for Count {
 }
 
 // One side of a value's item: a few rows, or none, and a few columns.
-fn drawn_extent(value: u32) -> Extent {
-    Extent {
-        row: u64::from(value % 3),
-        column: u64::from(value / 3 % 5),
+fn drawn_distance(value: u32) -> Distance {
+    Distance {
+        rows: u64::from(value % 3),
+        columns: u64::from(value / 3 % 5),
     }
 }
 
 // Rows add up. The columns are those behind the last value that reaches over rows, and its own.
-fn extent_sum(values: &[u32], divisor: u32) -> Extent {
-    let mut row = 0u64;
-    let mut column = 0u64;
+fn distance_sum(values: &[u32], divisor: u32) -> Distance {
+    let mut rows = 0u64;
+    let mut columns = 0u64;
     for value in values {
-        let one = drawn_extent(value.checked_div(divisor).unwrap_or(0));
-        row = row.saturating_add(one.row);
-        if one.row > 0 {
-            column = 0;
+        let one = drawn_distance(value.checked_div(divisor).unwrap_or(0));
+        rows = rows.saturating_add(one.rows);
+        if one.rows > 0 {
+            columns = 0;
         }
-        column = column.saturating_add(one.column);
+        columns = columns.saturating_add(one.columns);
     }
-    Extent { row, column }
+    Distance { rows, columns }
 }
 
-impl Drawn for Sides<Extent> {
+impl Drawn for Sides<Distance> {
     type Limit = NewBefore;
 
     fn of(value: u32) -> Self {
         Sides {
-            old: drawn_extent(value),
-            new: drawn_extent(value / 15),
+            old: drawn_distance(value),
+            new: drawn_distance(value / 15),
         }
     }
 
     fn limit(random: u32) -> NewBefore {
-        NewBefore(Extent {
-            row: u64::from(random / 8 % 300),
-            column: u64::from(random % 8),
+        NewBefore(Distance {
+            rows: u64::from(random / 8 % 300),
+            columns: u64::from(random % 8),
         })
     }
 
     fn sum_of(values: &[u32]) -> Self {
         Sides {
-            old: extent_sum(values, 1),
-            new: extent_sum(values, 15),
+            old: distance_sum(values, 1),
+            new: distance_sum(values, 15),
         }
     }
 }
@@ -116,8 +117,12 @@ fn next(state: &mut u32) -> u32 {
     *state / 65536
 }
 
-// Whether a tree has these values' items.
+// Whether a tree has these values' items, one by one and in a run.
 fn holds<M: Drawn>(tree: &Splay<M, u32>, plain: &[u32]) -> bool {
+    shows(tree, plain) && holds_each(tree, plain)
+}
+
+fn holds_each<M: Drawn>(tree: &Splay<M, u32>, plain: &[u32]) -> bool {
     for at in 0..plain.len() {
         if !has_item(tree, at, plain[at]) {
             return false;

@@ -1,11 +1,11 @@
-use Rattle.std.proofs.Common.{◌≡◌, ◌∙◌, sym, subst, List, refl, arith}
+use Rattle.std.proofs.Common.{◌∙◌, sym, subst, List, refl, arith}
 use Rattle.std.specs.List.{All}
 use Rattle.std.proofs.lemmas.List.{take_all}
 use Rattle.points.specs.declared.limits.TheConstants.{MAX_COORD}
 use Rattle.points.specs.declared.mark.Mark.{Mark}
 use Rattle.points.specs.declared.mark.Splice.{Splice}
 use Rattle.points.specs.Marks.{splice_of}
-use Rattle.points.specs.MarkList.{MarkIsWithin, SpliceIsWithin, all_moved}
+use Rattle.points.specs.MarkList.{MarkIsWithin, all_moved}
 use Rattle.markers.proofs.MoveLemmas.{within_at, within_more}
 use Rattle.markers.proofs.index.MarkerIndex.fits.Goals as goal
 

@@ -13,7 +13,7 @@ gap : (c : Joined-insert) → IsGap c.args.id c.self.inside.marks.items c.in-Err
 gap c = subst (λ (l : List Mark). IsGap c.args.id l c.in-Err.at) c.as_slice.ensures.value c.in-Err.ensures.gap
 
 room : (c : Joined-insert) → length c.self.inside.marks.items ≢ MAX_MARKS
-room c full = c.if-len-eq-MAX_MARKS.false (c.len.ensures ∙ sym c.as_slice.ensures.len ∙ ap (λ (l : List Mark). length l) c.as_slice.ensures.value ∙ full)
+room c full = let yes = c.is_full.ensures.1 (ap (λ (l : List Mark). length l) (sym c.self.view_is) ∙ full) in let no = c.if-is_full.false in cc
 
 abbrev added : Joined-insert → Mark
 added c = record { id = c.args.id; start = c.args.range.start; end = c.args.range.end; exclusive = c.args.exclusive }

@@ -1,4 +1,4 @@
-use Rattle.std.proofs.Common.{◌≡◌, ◌+◌, ◌∷◌, Some, None, option_map, ap, sym, ◌∙◌, drop, length, rules}
+use Rattle.std.proofs.Common.{option_map, ap, sym, ◌∙◌, length, rules}
 use Rattle.splay.proofs.OrderLemmas.{steps_next, steps_left, steps_end}
 use Rattle.splay.proofs.iter.IterIterator.next.Goals as goal
 
