@@ -8,11 +8,13 @@
 mod edit;
 mod encode;
 mod ending;
+mod parts;
 mod refusal;
 mod rows;
 mod text;
 
 pub use ending::Ending;
+pub use parts::TextPart;
 pub use refusal::TextRefusal;
 pub use rows::splits_pair;
 pub use text::{LineText, Replaced};

@@ -15,9 +15,9 @@ use std::marker::Model;
 /// A text: a list of at most [`MAX_UNITS`] UTF-16 units, with the starts of its rows.
 #[derive(Debug, Drop)]
 pub struct LineText {
-    units: Vec<u16>,
+    pub(crate) units: Vec<u16>,
     // Where each row but the first starts.
-    starts: Vec<u32>,
+    pub(crate) starts: Vec<u32>,
 }
 
 impl Model for LineText {
@@ -198,7 +198,7 @@ impl LineText {
     }
 
     // The units and the starts of rows, for a look-up.
-    fn rows_kept(&self) -> Rows<'_>
+    pub(crate) fn rows_kept(&self) -> Rows<'_>
         ensures { result.units.now ≡ self.now }
     {
         Rows {
