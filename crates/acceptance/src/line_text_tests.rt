@@ -131,6 +131,12 @@ fn finds_points_and_offsets(rt: HostRuntime) -> Result<(), Fail> {
     for point in [at(0, 4), at(1, 3), at(2, 1), at(3, 0)] {
         assert!(rt; text.offset_of(point).is_none(), "at {point:?}");
     }
+    Ok(())
+}
+
+#[test]
+fn clips_points(rt: HostRuntime) -> Result<(), Fail> {
+    let text = made(rt.alloc(), "ab\r\n\rc\n")?;
     let clipped = [
         (at(0, 9), at(0, 2)),
         (at(0, 3), at(0, 2)),
@@ -242,5 +248,50 @@ fn refuses_more_than_the_most_units(rt: HostRuntime) -> Result<(), Fail> {
     let longer = row_of(rt.alloc(), MAX_UNITS + 1)?;
     let refused = made(rt.alloc(), longer.as_str());
     assert!(rt; matches!(refused, Err(TextRefusal::TooLong)));
+    Ok(())
+}
+
+// A text of the units of `first` from one offset on, and of those of `second` up to another.
+fn put_together(
+    alloc: Global,
+    first: &LineText,
+    from: usize,
+    second: &LineText,
+    to: usize,
+) -> Result<LineText, NoMemory> {
+    let mut text = LineText::with_room(alloc, 8, 2)?;
+    if from <= first.len() && to <= second.len() {
+        append_part(&mut text, first, from, first.len())?;
+        append_part(&mut text, second, 0, to)?;
+    }
+    Ok(text)
+}
+
+// Puts a part of another text at the end, where it has such a part and the result isn't too long.
+fn append_part(
+    text: &mut LineText,
+    other: &LineText,
+    from: usize,
+    to: usize,
+) -> Result<(), NoMemory> {
+    if from > to || to > other.len() || text.len() + (to - from) > MAX_UNITS {
+        return Ok(());
+    }
+    text.append(other.part(from, to))
+}
+
+// Whether a text put together has these units, and its third row starts here.
+fn is_put_together(alloc: Global, units: &[u16], row: Option<usize>) -> Result<bool, TextRefusal> {
+    let first = made(alloc, "ab\ncd\nef")?;
+    let second = made(alloc, "gh\nij")?;
+    let text = put_together(alloc, &first, 4, &second, 4)?;
+    Ok(has_units(&text, units) && text.offset_of(at(2, 0)) == row)
+}
+
+#[test]
+fn carries_the_starts_of_parts_over(rt: HostRuntime) -> Result<(), Fail> {
+    // "d\nef" and "gh\ni"
+    let units = [100, 10, 101, 102, 103, 104, 10, 105];
+    assert!(rt; is_put_together(rt.alloc(), &units, Some(7))?);
     Ok(())
 }

@@ -1,17 +1,90 @@
-//! One replacement, made in place: the tail moves over the gap that opens or closes, the new units
-//! are written into the gap, and only the starts behind the first edited row are mended.
+//! Making a text, and replacing a part of it. A replacement is made in place: the tail moves over the
+//! gap that opens or closes, the new units are written into the gap, and only the starts behind the
+//! first edited row are mended.
 //!
 //! All memory is taken before anything is written, so a refusal leaves the text as it was.
-ghost use Rattle.std.specs.Prelude.{◌≡◌, ℕ, ◌+◌, ◌-◌, ◌<◌, ◌≤◌, ◌++◌, IfOk, OnOk, OnErr, length, take, drop, map, ◌^◌, count_by, vec_len, vec_capacity};
-ghost use Rattle.points.specs.Text.{is_lf, replaced, utf16_of};
+ghost use Rattle.std.specs.Prelude.{◌≡◌, ℕ, ◌+◌, ◌-◌, ◌<◌, ◌≤◌, ◌↔◌, ◌++◌, ◌^◌, IfOk, OnOk, OnErr, length, take, drop, map};
+ghost use Rattle.std.specs.Prelude.{count_by, vec_len, vec_capacity};
+ghost use Rattle.points.specs.Text.{IsWellFormed, is_lf, replaced, utf16_of};
+ghost use Rattle.points.specs.Place.{point_at, clip, clipped_offset};
 ghost use Rattle.line_text.specs.Size.{size_of};
 ghost use Rattle.line_text.specs.Starts.{starts_from, starts_of, CanMove};
 
-use crate::encode::{Size, write_units};
+use crate::encode::{Size, size_within, write_units};
 use crate::ending::LINE_FEED;
+use crate::refusal::TextRefusal;
 use crate::rows::Rows;
-use points::{MAX_UNITS, NoMemory};
+use crate::text::LineText;
+use points::{MAX_UNITS, NoMemory, Point, Range, Units};
 use std::alloc::Global;
+
+/// Where a replacement was made: the clipped ends of its range in the text before it, and the end
+/// of the new units in the text after it, which start where the range did.
+#[derive(Clone, Copy, Debug, PartialEq, Eq, Hash)]
+pub struct Replaced {
+    pub from: Point,
+    pub to: Point,
+    pub end: Point,
+}
+
+impl LineText {
+    /// The UTF-16 encoding of `text`.
+    pub fn from_str(alloc: Global, text: &str) -> Result<Self, TextRefusal>
+        ensures ok { IfOk result (λ made. made ≡ utf16_of text.now) }
+        ensures too_long { (result ≡ Err TextRefusal.TooLong) ↔ (MAX_UNITS < length (utf16_of text.now)) }
+        ensures well_formed { IfOk result (λ made. IsWellFormed made) }
+    {
+        let Some(size) = size_within(text, MAX_UNITS) else {
+            return Err(TextRefusal::TooLong);
+        };
+        let mut units = Vec::new(alloc);
+        let mut starts = Vec::new(alloc);
+        replace_units(&mut units, &mut starts, 0, 0, text, size)?;
+        Ok(LineText { units, starts })
+    }
+
+    /// The text of these units. They need not be well-formed.
+    pub fn from_units(units: Units) -> Result<Self, TextRefusal>
+        ensures ok { IfOk result (λ made. made ≡ units) }
+        ensures too_long { (result ≡ Err TextRefusal.TooLong) ↔ (MAX_UNITS < length units) }
+    {
+        if units.len() > MAX_UNITS {
+            return Err(TextRefusal::TooLong);
+        }
+        let units = units.into_vec();
+        let starts = starts_of(*units.allocator(), units.as_slice())?;
+        Ok(LineText { units, starts })
+    }
+
+    /// Replaces the units between the clipped ends of `range` by those of `text`.
+    pub fn replace(&mut self, range: Range, text: &str) -> Result<Replaced, TextRefusal>
+        ensures ok { OnOk result (self.new ≡ replaced self.old (clipped_offset self.old range.start)
+            (clipped_offset self.old range.end) (utf16_of text.now)) }
+        ensures from { IfOk result (λ at. at.from ≡ clip self.old range.start) }
+        ensures to { IfOk result (λ at. at.to ≡ clip self.old range.end) }
+        ensures end { IfOk result (λ at. at.end ≡ point_at self.new
+            (clipped_offset self.old range.start + length (utf16_of text.now))) }
+        ensures too_long { (result ≡ Err TextRefusal.TooLong) ↔ (MAX_UNITS < length (replaced self.old
+            (clipped_offset self.old range.start) (clipped_offset self.old range.end) (utf16_of text.now))) }
+        ensures err { OnErr result (self.new ≡ self.old) }
+        ensures well_formed { IsWellFormed self.old → OnOk result (IsWellFormed self.new) }
+    {
+        let rows = self.rows_kept();
+        let (from, to) = rows.span(range);
+        let start = rows.clip(range.start);
+        let end = rows.clip(range.end);
+        let room = MAX_UNITS - (rows.units.len() - (to - from));
+        let Some(size) = size_within(text, room) else {
+            return Err(TextRefusal::TooLong);
+        };
+        replace_units(&mut self.units, &mut self.starts, from, to, text, size)?;
+        Ok(Replaced {
+            from: start,
+            to: end,
+            end: self.point_at(from + size.units),
+        })
+    }
+}
 
 /// Replaces the units from `from` up to `to` by those of `text`, and mends the starts.
 pub(crate) fn replace_units(

@@ -1,3 +1,4 @@
+//! Line feeds, carriage returns, and how a row ends.
 /// The unit that ends a row.
 pub(crate) const LINE_FEED: u16 = 10;
 

@@ -1,3 +1,4 @@
+//! Why a text is refused.
 ghost use Rattle.std.specs.Prelude.{◌≡◌};
 ghost use Rattle.line_text.specs.declared.refusal.TextRefusal.TheVariants.{NoMemory as no_memory};
 

@@ -5,7 +5,8 @@
 ghost use Rattle.std.specs.Prelude.{◌≡◌, ℕ, ◌+◌, ◌-◌, ◌<◌, ◌≤◌, ◌^◌, length, take, count_by, Option, if◌then◌else◌};
 ghost use Rattle.std.specs.Char.Utf16.{is_high_surrogate, is_low_surrogate};
 ghost use Rattle.points.specs.Text.{is_lf};
-ghost use Rattle.points.specs.Place.{extent, point_at, offset_of, row_of, row_start, ends_with_cr, line_of, splits_pair, clipped_column, clip, clipped_offset};
+ghost use Rattle.points.specs.Place.{extent, point_at, offset_of, row_of, row_start, ends_with_cr, line_of};
+ghost use Rattle.points.specs.Place.{splits_pair, clipped_column, clip, clipped_offset};
 ghost use Rattle.points.specs.declared.limits.TheConstants.{MAX_UNITS};
 ghost use Rattle.line_text.specs.Ending.{ending_of};
 ghost use Rattle.line_text.specs.Starts.{starts_of};

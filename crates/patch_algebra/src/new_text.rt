@@ -5,9 +5,9 @@ ghost use Rattle.patch_algebra.specs.Applying.{Explains};
 
 use crate::fit::first_misfit;
 use crate::refusal::ApplyRefusal;
-use line_text::{LineText, MAX_UNITS};
+use line_text::LineText;
 use patch::Patch;
-use points::{NoMemory, Point, Units};
+use points::{MAX_UNITS, NoMemory, Point, Units};
 use std::alloc::Global;
 
 /// The text with the old ranges of all changes replaced at once by their new texts.

@@ -10,7 +10,7 @@ pub enum ApplyRefusal {
     /// The old text of this change, the first such, doesn't stand at its old range.
     #[error("change {change} doesn't fit the text")]
     DoesNotFit { change: usize },
-    /// The new text would have more than [`MAX_UNITS`](line_text::MAX_UNITS) units.
+    /// The new text would have more than [`MAX_UNITS`](points::MAX_UNITS) units.
     #[error("the text would be too long")]
     TooLong,
     /// There was no memory for it.
