@@ -250,3 +250,48 @@ fn refuses_more_than_the_most_units(rt: HostRuntime) -> Result<(), Fail> {
     assert!(rt; matches!(refused, Err(TextRefusal::TooLong)));
     Ok(())
 }
+
+// A text of the units of `first` from one offset on, and of those of `second` up to another.
+fn put_together(
+    alloc: Global,
+    first: &LineText,
+    from: usize,
+    second: &LineText,
+    to: usize,
+) -> Result<LineText, NoMemory> {
+    let mut text = LineText::with_room(alloc, 8, 2)?;
+    if from <= first.len() && to <= second.len() {
+        append_part(&mut text, first, from, first.len())?;
+        append_part(&mut text, second, 0, to)?;
+    }
+    Ok(text)
+}
+
+// Puts a part of another text at the end, where it has such a part and the result isn't too long.
+fn append_part(
+    text: &mut LineText,
+    other: &LineText,
+    from: usize,
+    to: usize,
+) -> Result<(), NoMemory> {
+    if from > to || to > other.len() || text.len() + (to - from) > MAX_UNITS {
+        return Ok(());
+    }
+    text.append(other.part(from, to))
+}
+
+// Whether a text put together has these units, and its third row starts here.
+fn is_put_together(alloc: Global, units: &[u16], row: Option<usize>) -> Result<bool, TextRefusal> {
+    let first = made(alloc, "ab\ncd\nef")?;
+    let second = made(alloc, "gh\nij")?;
+    let text = put_together(alloc, &first, 4, &second, 4)?;
+    Ok(has_units(&text, units) && text.offset_of(at(2, 0)) == row)
+}
+
+#[test]
+fn carries_the_starts_of_parts_over(rt: HostRuntime) -> Result<(), Fail> {
+    // "d\nef" and "gh\ni"
+    let units = [100, 10, 101, 102, 103, 104, 10, 105];
+    assert!(rt; is_put_together(rt.alloc(), &units, Some(7))?);
+    Ok(())
+}

@@ -16,7 +16,7 @@ pub feeds-take-le : (t : List ℕ) (i : ℕ) → feeds (take i t) ≤ feeds t
 feeds-take-le t i = sum_by-take-le (λ u. cond (is_lf u) 1 0) t i
 
 -- starts stand behind the offset of the text, within it
-starts_stand : (k : ℕ) (t : List ℕ) (r d : ℕ) → r < length (starts_from k t) → (k ≤ get_or (starts_from k t) r d) × (get_or (starts_from k t) r d ≤ k + length t)
+pub starts_stand : (k : ℕ) (t : List ℕ) (r d : ℕ) → r < length (starts_from k t) → (k ≤ get_or (starts_from k t) r d) × (get_or (starts_from k t) r d ≤ k + length t)
 starts_stand k t r d lt = (omega (arith, at), omega (arith, at, (row_is t (suc r) (omega (arith, length-starts k t))).within))
   where
     at : get_or (starts_from k t) r d ≡ k + row_start t (suc r)

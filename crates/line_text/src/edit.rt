@@ -143,8 +143,8 @@ fn count_feeds(units: &[u16]) -> usize
     units.iter().filter(|unit| **unit == LINE_FEED).count()
 }
 
-// The rows in which the offsets `from` and `to` lie.
-fn rows_between(units: &[u16], starts: &[u32], from: usize, to: usize) -> (usize, usize)
+/// The rows in which the offsets `from` and `to` lie.
+pub(crate) fn rows_between(units: &[u16], starts: &[u32], from: usize, to: usize) -> (usize, usize)
     requires kept { starts.now ≡ starts_of units.now }
     requires short { length units.now ≤ MAX_UNITS }
     requires order { from ≤ to }
@@ -158,8 +158,8 @@ fn rows_between(units: &[u16], starts: &[u32], from: usize, to: usize) -> (usize
     (rows.row_at(from), rows.row_at(to))
 }
 
-// Takes the memory for a gap of `len` places where `removed` items stand.
-fn make_room<T>(items: &mut Vec<T>, len: usize, removed: usize) -> Result<(), NoMemory>
+/// Takes the memory for a gap of `len` places where `removed` items stand.
+pub(crate) fn make_room<T>(items: &mut Vec<T>, len: usize, removed: usize) -> Result<(), NoMemory>
     requires { removed ≤ vec_len items.old }
     ensures items { items.new.items ≡ items.old.items }
     ensures ok { OnOk result (vec_len items.new + len ≤ vec_capacity items.new + removed) }
@@ -207,7 +207,7 @@ fn edit_starts(
 
 /// Makes the items from `from` up to `to` into a gap of `len` places, whose content is left open.
 /// There is room for it already.
-fn open_gap<T: Copy>(items: &mut Vec<T>, from: usize, to: usize, len: usize, filler: T)
+pub(crate) fn open_gap<T: Copy>(items: &mut Vec<T>, from: usize, to: usize, len: usize, filler: T)
     requires order { from ≤ to }
     requires within { to ≤ vec_len items.old }
     requires room { vec_len items.old + len ≤ vec_capacity items.old + (to - from) }
@@ -241,7 +241,7 @@ fn write_starts(into: &mut [u32], units: &[u16], base: u32)
 }
 
 /// Moves starts that stood behind offset `from` so that they stand as far behind `to`.
-fn move_starts(starts: &mut [u32], from: u32, to: u32)
+pub(crate) fn move_starts(starts: &mut [u32], from: u32, to: u32)
     requires { CanMove from to starts.old }
     ensures { starts.new ≡ map (λ s. s - from + to) starts.old }
 {

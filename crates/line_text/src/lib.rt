@@ -9,12 +9,14 @@ mod edit;
 mod encode;
 mod ending;
 mod lookup;
+mod parts;
 mod refusal;
 mod rows;
 mod text;
 
 pub use edit::Replaced;
 pub use ending::Ending;
+pub use parts::TextPart;
 pub use refusal::TextRefusal;
 pub use rows::splits_pair;
 pub use text::LineText;
