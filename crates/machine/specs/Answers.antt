@@ -78,6 +78,11 @@ reply_of version at (Compared order) = reply.Order at order
 reply_of version at (Heard heard) = reply.Heard at heard
 reply_of version at (Refused why) = reply.Refused at why
 
+-- the units that a script opens with, where it opens with a text
+abbrev pub opening_text : Opening → Option (List ℕ)
+opening_text (opening.Text bytes) = Some (utf16_of bytes)
+opening_text (opening.File name encoding) = None
+
 -- the number of the call that a reply answers, where it answers one
 abbrev pub number_of : Reply → Option ℕ
 number_of (reply.Edited at end from hits to) = Some at

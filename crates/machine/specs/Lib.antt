@@ -4,3 +4,5 @@ pub mod Hits
 pub mod Encodings
 pub mod Answers
 pub mod Lawful
+pub mod Plain
+pub mod Laws
