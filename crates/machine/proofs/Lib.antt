@@ -1,2 +1,3 @@
 pub mod PlainRuns
 pub mod StepLemmas
+pub mod Bare

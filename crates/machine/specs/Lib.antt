@@ -6,3 +6,4 @@ pub mod Answers
 pub mod Lawful
 pub mod Plain
 pub mod Laws
+pub mod Bare
