@@ -1,7 +1,6 @@
 -- The plain machine's calls and answers in the words of commands and replies, and what the reads of a snapshot answer.
-use Rattle.std.specs.Prelude.{◌≡◌, ℕ, ◌+◌, ◌-◌, ◌==◌, List, [], ◌∷◌, length, map, take, if◌then◌else◌, Option, Some, None}
+use Rattle.std.specs.Prelude.{ℕ, ◌+◌, ◌-◌, ◌==◌, List, [], ◌∷◌, length, map, take, if◌then◌else◌, Option, Some, None}
 use Rattle.points.specs.declared.point.Point.{Point}
-use Rattle.points.specs.declared.range.Range.{Range}
 use Rattle.points.specs.declared.mark.HitCounts.{HitCounts}
 use Rattle.points.specs.Text.{utf16_of, text_of}
 use Rattle.points.specs.Place.{point_at, extent, span}
