@@ -12,7 +12,7 @@ use Rattle.points.proofs.ClipLemmas.{clipped_at}
 use Rattle.machine.specs.declared.command.Command.{Command}
 use Rattle.machine.specs.declared.command.Command.TheVariants as command
 use Rattle.machine.specs.declared.reply.CallRefusal.TheVariants.{TooLong}
-use Rattle.machine.specs.Limits.{MAX_UNITS}
+use Rattle.points.specs.declared.limits.TheConstants.{MAX_UNITS}
 use Rattle.machine.specs.Machine.{State, Answer, Edited, Refused, Shown, edit, look, step, no_hits, nothing_made, one_made, edited, edited_one, shown, between}
 use Rattle.machine.specs.Bare.{bare_state, bare, is_plain, bare_next, bare_reply, bare_after, bare_replies}
 use Rattle.machine.specs.Answers.{Matches, call_of, reply_of}

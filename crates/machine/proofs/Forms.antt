@@ -6,14 +6,14 @@ use Rattle.std.proofs.lemmas.List.{length-map}
 use Rattle.points.specs.declared.mark.Mark.{Mark}
 use Rattle.points.specs.Text.{replaced, utf16_of}
 use Rattle.points.specs.Place.{span}
-use Rattle.points.specs.MarkList.{mark_with, MAX_MARKS}
+use Rattle.points.specs.MarkList.{mark_with}
 use Rattle.machine.specs.declared.command.Command.{Command}
 use Rattle.machine.specs.declared.command.Command.TheVariants as command
 use Rattle.machine.specs.declared.reads.Read.{Read}
 use Rattle.machine.specs.declared.reads.Read.TheVariants as read
 use Rattle.machine.specs.declared.reply.Reply.{Reply}
 use Rattle.machine.specs.declared.reply.Reply.TheVariants as reply
-use Rattle.machine.specs.Limits.{MAX_UNITS, MAX_WATCHERS}
+use Rattle.points.specs.declared.limits.TheConstants.{MAX_UNITS, MAX_MARKS, MAX_WATCHERS}
 use Rattle.machine.specs.Machine.{State, Step, Part, Progress, Edit, Answer, Watching, Edited, Batched, Shown, Done, Ranged, Found, Compared, Heard, Refused, nothing_made, one_made, member, joined, members, edited_one, edited, undone, redone, undo_step, redo_step, on_mark, add_step, watch_step, unwatch_step, watcher_with, step}
 use Rattle.machine.specs.Answers.{edit_of, reply_of, number_of, edited_reply, reply_part, first_part, Matches, read_answer}
 use Rattle.machine.specs.Lawful.{is_edited, is_batched, is_batch_of, is_change, is_batch, is_numbered, is_range, is_order, is_heard, refuses, is_too_long, is_nothing_there, is_mark_refused, is_mark_unknown, is_watch_refused, is_watch_unknown, answer_has_form, answers_have_forms, has_form, next_told, told_after}

@@ -5,8 +5,8 @@ use Rattle.points.specs.declared.point.Point.{Point}
 use Rattle.points.specs.declared.mark.Mark.{Mark}
 use Rattle.points.specs.Text.{replaced}
 use Rattle.points.specs.Place.{span}
-use Rattle.points.specs.MarkList.{mark_with, with_mark, MAX_MARKS}
-use Rattle.machine.specs.Limits.{MAX_UNITS, MAX_WATCHERS}
+use Rattle.points.specs.MarkList.{mark_with, with_mark}
+use Rattle.points.specs.declared.limits.TheConstants.{MAX_UNITS, MAX_MARKS, MAX_WATCHERS}
 use Rattle.machine.specs.Machine.{State, Change, Step, Part, Progress, Edit, Call, Answer, Batched, Watching, edit, batch, undo, redo, look, add_mark, remove_mark, set_exclusive, mark_range, find_marks, compare_marks, watch, unwatch, counted, nothing_made, one_made, member, joined, members, with_step, edited, put, undone, redone, undo_step, redo_step, on_mark, add_step, watch_step, unwatch_step, watcher_with, step}
 use Rattle.machine.specs.Laws.{IsNumbered, StepNumbers}
 

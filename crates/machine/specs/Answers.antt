@@ -19,7 +19,7 @@ use Rattle.machine.specs.declared.reply.Reply.{Reply}
 use Rattle.machine.specs.declared.reply.Reply.TheVariants as reply
 use Rattle.machine.specs.declared.reply.Span.{Span}
 use Rattle.machine.specs.Machine.{Part, Call, Answer, Edit, no_hits, edit, batch, undo, redo, look, add_mark, remove_mark, set_exclusive, mark_range, find_marks, compare_marks, watch, unwatch, Edited, Batched, Shown, Done, Ranged, Found, Compared, Heard, Refused, shown, between}
-use Rattle.machine.specs.Hits.{hits}
+use Rattle.points.specs.Literal.{hits}
 use Rattle.machine.specs.Encodings.{encode}
 
 -- the edit that a member of a batch makes
