@@ -5,4 +5,6 @@
 #[cfg(test)]
 mod line_text_tests;
 #[cfg(test)]
+mod machine_tests;
+#[cfg(test)]
 mod points_tests;
