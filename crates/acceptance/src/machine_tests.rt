@@ -37,4 +37,5 @@ fn states_laws_of_lawful_transcripts() {
     laws::calls_are_numbered();
     laws::plain_transcript_is_lawful();
     laws::only_plain_transcript_is_lawful();
+    laws::written_history_is_lawful();
 }

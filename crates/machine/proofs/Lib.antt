@@ -7,3 +7,4 @@ pub mod OneSession
 pub mod InOrder
 pub mod Sides
 pub mod OnlyPlain
+pub mod ManySessions
