@@ -8,3 +8,4 @@ pub mod InOrder
 pub mod Sides
 pub mod OnlyPlain
 pub mod ManySessions
+pub mod SessionRuns

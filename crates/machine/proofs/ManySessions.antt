@@ -1,6 +1,6 @@
 -- Many sessions: a transcript that writes a legal history down is lawful. The sessions' entries are those of the history in
 -- another order, so each number finds the same call, and each take shows the state behind its front.
-use Rattle.std.proofs.Common.{◌≡◌, ℕ, zero, suc, ◌+◌, ◌-◌, ◌<◌, ◌≤◌, List, [], ◌∷◌, ◌++◌, length, map, take, drop, get_or, Bool, true, false, cond, ◌&&◌, eqb, Option, Some, None, refl, sym, eq-eqb, ◌∙◌, ap, subst, arith, zero-add, append-nil, inl, inr, ◌⊎◌}
+use Rattle.std.proofs.Common.{◌≡◌, ℕ, zero, suc, ◌+◌, ◌<◌, ◌≤◌, List, [], ◌∷◌, ◌++◌, length, map, drop, get_or, Bool, true, false, cond, eqb, Option, Some, None, refl, sym, eq-eqb, ◌∙◌, ap, subst, arith, zero-add, append-nil, inl, inr, ◌⊎◌}
 use Rattle.std.specs.Prelude.{find, count_by, ◌==◌}
 use Rattle.std.specs.List.Sorted.{IsStrictlyIncreasing}
 use Rattle.std.specs.List.{AllByRecursion}
@@ -10,14 +10,12 @@ use Rattle.std.proofs.lemmas.List.Sums.{sum_by-cons, sum_by-append}
 use Rattle.std.proofs.lemmas.List.{append_assoc}
 use Rattle.machine.specs.declared.command.Command.{Command}
 use Rattle.machine.specs.declared.command.Command.TheVariants as command
-use Rattle.machine.specs.declared.command.Script.{Script}
 use Rattle.machine.specs.declared.reply.Reply.{Reply}
 use Rattle.machine.specs.declared.reply.Reply.TheVariants as reply
-use Rattle.machine.specs.declared.reply.Transcript.{Transcript}
 use Rattle.machine.specs.Machine.{State, opened, Call, Answer, step, after}
 use Rattle.machine.specs.Answers.{reply_of, number_of, Matches}
-use Rattle.machine.specs.Lawful.{have_forms, sessions_have_forms, Entry, session_entries, entries, with_number, numbers, has_number, numbered, state_after, CallsAgree, HasForm, EndAgrees, SnapshotsAgree, IsLawful, IsAsked, Taking, with_taking, takings, all_takings, patterns_in, patterns_of, last_number, IsChange, IsTakingLawful}
-use Rattle.machine.specs.Histories.{number_in, Shared, Event, called, hand, hand_back, after_event, IsRight, IsLegal, after_events, opened_shared, numbered_from, own_first, own, AreOwn, IsSession, HasFront, IsWritten}
+use Rattle.machine.specs.Lawful.{have_forms, sessions_have_forms, Entry, entries, with_number, numbers, has_number, state_after, IsAsked, Taking, with_taking, takings, all_takings, patterns_in, patterns_of, last_number, IsChange, IsTakingLawful}
+use Rattle.machine.specs.Histories.{number_in, Shared, Event, called, hand, hand_back, after_event, IsLegal, after_events, opened_shared, numbered_from, own_first, own, AreOwn, IsSession, HasFront}
 use Rattle.machine.specs.Laws.{HistoryIsLawful}
 use Rattle.machine.proofs.StepLemmas.{step_counts}
 use Rattle.machine.proofs.History.{HasEntry, has_entry, history, entry_of, length-history, once_each, Finds, state_after-finds, calls_agree-finds, after_counts, Stands, stands_at_start, stands_on}

@@ -13,11 +13,10 @@ use Rattle.machine.specs.declared.reply.Reply.{Reply}
 use Rattle.machine.specs.Machine.{State, opened, Call, step, after}
 use Rattle.machine.specs.Answers.{call_of, number_of, Matches, read_answer}
 use Rattle.machine.specs.Histories.{number_in}
-use Rattle.machine.specs.Lawful.{have_forms, Entry, with_entry, session_entries, entries, with_number, numbers, has_number, state_after, HasForm, EndAgrees, SnapshotsAgree, IsLawful, AnswersAs, IsAsked, asked_in, asked_of, reads_of, ends, answers_in, next_told, told_after, patterns_in, Taking, with_taking, takings, last_number, IsTakingLawful}
+use Rattle.machine.specs.Lawful.{have_forms, Entry, with_entry, session_entries, entries, with_number, numbers, has_number, HasForm, EndAgrees, SnapshotsAgree, IsLawful, AnswersAs, IsAsked, asked_in, asked_of, reads_of, ends, answers_in, next_told, told_after, patterns_in, Taking, with_taking, takings, last_number, IsTakingLawful}
 use Rattle.machine.specs.Plain.{Kept, kept_text, plain_answer, plain_answers, unnumbered, said, plain_reply, after_call, kept_after, plain_replies, with_call, calls_of, plain_transcript}
 use Rattle.machine.specs.Laws.{PlainIsLawful}
-use Rattle.machine.proofs.StepLemmas.{step_counts, step_numbers}
-use Rattle.machine.proofs.History.{history, entry_of, length-history, once_each, rising, beyond, Finds, history_finds, state_after-finds, calls_agree-finds, after_counts, stands_at_start, stands_on}
+use Rattle.machine.proofs.History.{history, entry_of, length-history, once_each, rising, beyond, history_finds, state_after-finds, calls_agree-finds, after_counts, stands_at_start, stands_on}
 use Rattle.machine.proofs.History.{Stands as StandsIn}
 use Rattle.machine.proofs.Forms.{number_of_reply, reply_form}
 use Rattle.machine.specs.Bare.{bare, is_plain, bare_after, bare_replies}
