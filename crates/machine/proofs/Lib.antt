@@ -9,3 +9,4 @@ pub mod Sides
 pub mod OnlyPlain
 pub mod ManySessions
 pub mod SessionRuns
+pub mod TwoSessions
