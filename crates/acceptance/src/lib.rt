@@ -5,6 +5,8 @@
 #[cfg(test)]
 mod line_text_tests;
 #[cfg(test)]
+mod machine_tests;
+#[cfg(test)]
 mod markers_tests;
 #[cfg(test)]
 mod patch_algebra_tests;
