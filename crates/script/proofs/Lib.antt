@@ -14,3 +14,4 @@ pub mod ScriptExact
 pub mod Apart
 pub mod TextsApart
 pub mod ReadBack
+pub mod RuleRows

@@ -12,7 +12,9 @@ use Rattle.script.specs.declared.command.Opening.{Opening}
 use Rattle.script.specs.declared.command.Opening.TheVariants as opening
 use Rattle.script.specs.declared.command.Script.{Script}
 use Rattle.script.specs.Machine.{max_units, opening_units}
-use Rattle.script.specs.ScriptDocument.{script_in, script_of, document, opening_of, sessions_of, session_of, commands_of, opened_by, bounded, is_bounded, is_version_one, member_count, item_count, string_in}
+use Rattle.script.specs.ScriptDocument.{script_in, script_of, document, opening_of, sessions_of, session_of, commands_of, opened_by, bounded, is_bounded}
+use Rattle.script.specs.Parts.{member_count, item_count, string_in}
+use Rattle.script.specs.Rules.{is_version_one}
 use Rattle.script.specs.Limits.{IsWithinLimits}
 
 -- the value behind a test that passed, and behind a map

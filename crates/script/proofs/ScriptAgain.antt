@@ -10,7 +10,9 @@ use Rattle.script.specs.declared.command.Opening.{Opening}
 use Rattle.script.specs.declared.command.Opening.TheVariants as opening
 use Rattle.script.specs.declared.command.Script.{Script}
 use Rattle.script.specs.Machine.{max_units, opening_units}
-use Rattle.script.specs.ScriptDocument.{within, coordinate, point_from, range_of, edit_of, look_of, command_of, commands_of, is_bounded, session_of, sessions_of, opening_of, script_of, max_coord, max_shown}
+use Rattle.script.specs.ScriptDocument.{edit_of, look_of, command_of, commands_of, is_bounded, session_of, sessions_of, opening_of, script_of}
+use Rattle.script.specs.Parts.{within, coordinate, point_from, range_of, max_coord}
+use Rattle.script.specs.Rows.{max_shown}
 use Rattle.script.specs.ScriptValue.{range_value, command_value, commands_items, scripts_items, opening_value, script_value, IsRangeWithin, IsCommandWithin, BreaksNoRule}
 use Rattle.script.proofs.Counting.{range_in_order}
 use Rattle.serde_json.specs.Data.{Data, array}

@@ -13,7 +13,10 @@ use Rattle.script.specs.declared.command.Command.TheVariants as command
 use Rattle.script.specs.declared.command.Opening.{Opening}
 use Rattle.script.specs.declared.command.Opening.TheVariants as opening
 use Rattle.script.specs.declared.command.Script.{Script}
-use Rattle.script.specs.ScriptDocument.{member_count, item_count, string_in, whole_of, whole_in, coordinate, point_from, range_by, range_between, range_of, range_in, edit_of, look_of, command_of, commands_of, is_word, bounded, is_bounded, session_of, sessions_of, opened_by, opening_of, is_version_one, is_one, script_of, max_coord, max_shown}
+use Rattle.script.specs.ScriptDocument.{edit_of, look_of, command_of, commands_of, bounded, is_bounded, session_of, sessions_of, opened_by, opening_of, script_of}
+use Rattle.script.specs.Parts.{member_count, item_count, string_in, whole_of, whole_in, coordinate, point_from, range_by, range_between, range_of, range_in, is_word, max_coord}
+use Rattle.script.specs.Rows.{max_shown}
+use Rattle.script.specs.Rules.{is_version_one, is_one}
 use Rattle.script.specs.ScriptValue.{range_value, command_value, commands_items, scripts_items, opening_value, script_value, IsRangeWithin, IsCommandWithin, BreaksNoRule}
 use Rattle.script.specs.TranscriptDocument.{whole}
 use Rattle.script.proofs.KeyLemmas.{Ascend, all_keys, three_members, one_member}

@@ -1,4 +1,8 @@
 pub mod Machine
+pub mod Parts
+pub mod Rows
+pub mod RuleName
+pub mod Rules
 pub mod ScriptDocument
 pub mod Reading
 pub mod TranscriptDocument

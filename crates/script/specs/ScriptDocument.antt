@@ -15,82 +15,12 @@ use Rattle.script.specs.declared.refusal.ScriptRefusal.TheVariants.{Refused, NoM
 use Rattle.script.specs.declared.refusal.ScriptRule.{ScriptRule}
 use Rattle.script.specs.declared.refusal.ScriptRule.TheVariants.{NotJson, BadShape}
 use Rattle.script.specs.Machine.{max_units}
+use Rattle.script.specs.Parts.{member_count, item_count, string_in, whole_in, is_word, range_in}
+use Rattle.script.specs.Rows.{max_shown}
+use Rattle.script.specs.Rules.{max_commands, max_reading, is_version_one}
 use Rattle.serde_json.specs.Data.{Data, null, boolean, number, string, array, object, Items, no_items, item, Members, no_members, member}
 use Rattle.serde_json.specs.Find.{get, at, as_u64, as_number, as_str, as_array}
 use Rattle.serde_json.specs.Read.{read}
-
--- how many members an object has; nothing else has any
-abbrev pub count_members : Members → ℕ
-count_members no_members = 0
-count_members (member k d ms) = suc (count_members ms)
-
-abbrev pub member_count : Data → ℕ
-member_count (object ms) = count_members ms
-member_count null = 0
-member_count (boolean b) = 0
-member_count (number n) = 0
-member_count (string s) = 0
-member_count (array ds) = 0
-
--- how many items a list has; nothing else has any
-abbrev pub count_items : Items → ℕ
-count_items no_items = 0
-count_items (item d ds) = suc (count_items ds)
-
-abbrev pub item_count : Data → ℕ
-item_count (array ds) = count_items ds
-item_count null = 0
-item_count (boolean b) = 0
-item_count (number n) = 0
-item_count (string s) = 0
-item_count (object ms) = 0
-
--- the string of a member, and its whole number where that is at most `limit`
-abbrev pub string_in : List ℕ → Data → Option (List ℕ)
-string_in key d = option_and_then as_str (get key d)
-
-abbrev pub within : ℕ → ℕ → Option ℕ
-within limit n = if nat_le n limit then Some n else None
-
-abbrev pub whole_of : ℕ → Data → Option ℕ
-whole_of limit d = option_and_then (within limit) (option_and_then as_u64 (as_number d))
-
-abbrev pub whole_in : ℕ → List ℕ → Data → Option ℕ
-whole_in limit key d = option_and_then (whole_of limit) (get key d)
-
--- a member is this word
-abbrev pub is_word : Option (List ℕ) → List ℕ → Bool
-is_word None word = false
-is_word (Some s) word = bytes_eq s word
-
--- the range between two points, where the end isn't before the start
-abbrev pub range_by : (start end : Point) (b : Bool) → point_le start end ≡ b → Option Range
-range_by start end true h = Some (record { start = start; end = end; ordered = h })
-range_by start end false h = None
-
-abbrev pub range_between : Point → Point → Option Range
-range_between start end = range_by start end (point_le start end) refl
-
--- the greatest row or column of a range
-abbrev pub max_coord : ℕ
-max_coord = 2 ^ 30
-
-abbrev pub coordinate : Data → ℕ → Option ℕ
-coordinate d i = option_and_then (whole_of max_coord) (at i d)
-
-abbrev pub point_from : Data → ℕ → Option Point
-point_from d i = option_and_then (λ row. option_map (λ column. record { row = row; column = column }) (coordinate d (i + 1))) (coordinate d i)
-
--- a range: a list of four whole numbers, the row and the column of its start and of its end
-unfoldable pub range_of : Data → Option Range
-range_of d = if item_count d == 4 then option_and_then (λ start. option_and_then (range_between start) (point_from d 2)) (point_from d 0) else None
-
-abbrev pub range_in : Data → Option Range
-range_in d = option_and_then range_of (get (codes "range") d)
-
--- the most units of a `text` that a script may ask for
-abbrev pub max_shown : ℕ
-max_shown = 65536
 
 unfoldable pub edit_of : Data → Option Command
 edit_of d = option_and_then (λ range. option_map (command.Edit range) (string_in (codes "text") d)) (range_in d)
@@ -112,13 +42,7 @@ abbrev pub is_reading : Command → Bool
 is_reading (command.Edit range new) = false
 is_reading (command.Text range limit) = true
 
--- the limits of a script: its commands, and those that show a text
-abbrev pub max_commands : ℕ
-max_commands = 65536
-
-abbrev pub max_reading : ℕ
-max_reading = 4096
-
+-- the commands of a session, and those that show a text, are within their limits
 abbrev pub is_bounded : List Command → Bool
 is_bounded cs = nat_le (length cs) max_commands && nat_le (count_by is_reading cs) max_reading
 
@@ -138,13 +62,6 @@ opened_by text = if nat_le (length (utf16_of text)) max_units then Some (opening
 -- what a script opens: an object with the one member `text`, of at most 2^24 units
 unfoldable pub opening_of : Data → Option Opening
 opening_of d = if member_count d == 1 then option_and_then opened_by (string_in (codes "text") d) else None
-
-abbrev pub is_one : Option ℕ → Bool
-is_one None = false
-is_one (Some n) = n == 1
-
-abbrev pub is_version_one : Data → Bool
-is_version_one d = is_one (option_and_then as_u64 (option_and_then as_number (get (codes "version") d)))
 
 -- the script that a JSON value is: an object with the three members `version`, which is 1, `open` and `sessions`
 unfoldable pub script_of : Data → Option Script

@@ -9,7 +9,8 @@ use Rattle.script.specs.declared.command.Opening.{Opening}
 use Rattle.script.specs.declared.command.Opening.TheVariants as opening
 use Rattle.script.specs.declared.command.Script.{Script}
 use Rattle.script.specs.Limits.{IsWithinLimits}
-use Rattle.script.specs.ScriptDocument.{max_coord, max_shown}
+use Rattle.script.specs.Parts.{max_coord}
+use Rattle.script.specs.Rows.{max_shown}
 use Rattle.script.specs.TranscriptDocument.{whole}
 use Rattle.serde_json.specs.Data.{Data, string, array, object, Items, no_items, item, no_members, member}
 

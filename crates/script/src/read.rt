@@ -1,7 +1,8 @@
 //! From bytes to a script.
 ghost use Rattle.std.specs.Prelude.{◌≡◌, Some, IfOk, IfErr};
 ghost use Rattle.serde_json.specs.View.{view, items_view};
-ghost use Rattle.script.specs.ScriptDocument.{edit_of, look_of, command_of, commands_of, session_of, sessions_of, opened_by, opening_of, is_version_one, script_of, document, script_in, script_place, IsRefusalAt};
+ghost use Rattle.script.specs.ScriptDocument.{edit_of, look_of, command_of, commands_of, session_of, sessions_of, opened_by, opening_of, script_of, document, script_in, script_place, IsRefusalAt};
+ghost use Rattle.script.specs.Rules.{is_version_one};
 ghost use Rattle.script.specs.Reading.{Gives};
 ghost use Rattle.script.specs.Limits.{IsWithinLimits};
 
