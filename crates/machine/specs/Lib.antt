@@ -1,0 +1,6 @@
+pub mod Limits
+pub mod Machine
+pub mod Hits
+pub mod Encodings
+pub mod Answers
+pub mod Lawful
