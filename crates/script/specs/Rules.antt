@@ -6,7 +6,7 @@ use Rattle.std.specs.Str.{bytes_eq}
 use Rattle.points.specs.Text.{utf16_of}
 use Rattle.script.specs.declared.refusal.ScriptRule.{ScriptRule}
 use Rattle.script.specs.declared.refusal.ScriptRule.TheVariants.{NotJson, BadShape, TooMany, UnknownSnapshot, SnapshotTaken, BadNumber, BadEncoding, EmptyNeedle, BadName}
-use Rattle.script.specs.Machine.{max_units}
+use Rattle.machine.specs.Limits.{MAX_UNITS}
 use Rattle.script.specs.Parts.{member_count, items_in, count_items, string_in, whole_of, whole_in, is_word, range_of}
 use Rattle.script.specs.Rows.{Kind, Field, Row, max_id, how_words, encoding_words, command_rows, read_rows, text_opening, file_opening}
 use Rattle.script.specs.Rows as kind
@@ -261,7 +261,7 @@ opened_text d = unwrap_or (option_map utf16_of (option_and_then (string_in (code
 abbrev pub document_tests : Data → List (Bool × ScriptRule)
 document_tests d =
     (not (is_document d), BadShape)
-    ∷ (nat_lt max_sessions (count_items (sessions_in d)) || nat_lt max_units (length (opened_text d)), TooMany)
+    ∷ (nat_lt max_sessions (count_items (sessions_in d)) || nat_lt MAX_UNITS (length (opened_text d)), TooMany)
     ∷ (opening_breaks wrong_encoding false (get (codes "open") d), BadEncoding)
     ∷ (opening_breaks wrong_name false (get (codes "open") d), BadName)
     ∷ []

@@ -1,13 +1,13 @@
 //! How many units a text has, and whether the commands of a script are within its limits.
 ghost use Rattle.std.specs.Prelude.{◌≡◌, length, count_by};
 ghost use Rattle.points.specs.Text.{utf16_of};
-ghost use Rattle.script.specs.ScriptDocument.{is_reading, is_bounded};
+ghost use Rattle.script.specs.Limits.{opening_units, is_reading, is_bounded, is_within};
 
-use crate::command::Command;
-use crate::limits::{MAX_COMMANDS, MAX_READING};
+use crate::limits::{MAX_COMMANDS, MAX_READING, MAX_UNITS};
+use machine::{Command, Opening, Script};
 
 // The UTF-16 units of a text. It takes no memory.
-pub(crate) fn units_of(text: &str) -> usize
+fn units_of(text: &str) -> usize
     ensures { result ≡ length (utf16_of text.now) }
 {
     let mut units = 0;
@@ -21,12 +21,12 @@ fn is_reading(command: &Command) -> bool
     ensures { result ≡ is_reading command.now }
 {
     match command {
-        Command::Edit { .. } => false,
         Command::Text { .. } => true,
+        _ => false,
     }
 }
 
-pub(crate) fn is_bounded(commands: &[Command]) -> bool
+fn is_bounded(commands: &[Command]) -> bool
     ensures { result ≡ is_bounded commands.now }
 {
     let reading = commands
@@ -34,4 +34,20 @@ pub(crate) fn is_bounded(commands: &[Command]) -> bool
         .filter(|command| is_reading(*command))
         .count();
     commands.len() <= MAX_COMMANDS && reading <= MAX_READING
+}
+
+fn opening_len(opening: &Opening) -> usize
+    ensures { result ≡ length (opening_units opening.now) }
+{
+    match opening {
+        Opening::Text { text } => units_of(text.as_str()),
+        Opening::File { .. } => 0,
+    }
+}
+
+pub(crate) fn is_within(script: &Script) -> bool
+    ensures { result ≡ is_within script.now }
+{
+    opening_len(&script.opening) <= MAX_UNITS
+        && script.sessions.as_slice().iter().all(|session| is_bounded(session.as_slice()))
 }
