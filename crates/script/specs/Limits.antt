@@ -2,13 +2,13 @@
 use Rattle.std.specs.Prelude.{◌≡◌, ◌≤◌, ◌&&◌, ℕ, nat_le, List, [], length, count_by, Bool, true, false}
 use Rattle.std.specs.List.{AllByRecursion, list_all}
 use Rattle.points.specs.Text.{utf16_of}
-use Rattle.machine.specs.Limits.{MAX_UNITS}
+use Rattle.points.specs.declared.limits.TheConstants.{MAX_UNITS}
+use Rattle.script.specs.declared.limits.TheConstants.{MAX_COMMANDS, MAX_READINGS}
 use Rattle.machine.specs.declared.command.Command.{Command}
 use Rattle.machine.specs.declared.command.Command.TheVariants as command
 use Rattle.machine.specs.declared.command.Opening.{Opening}
 use Rattle.machine.specs.declared.command.Opening.TheVariants as opening
 use Rattle.machine.specs.declared.command.Script.{Script}
-use Rattle.script.specs.Rules.{max_commands, max_reading}
 
 -- the units of the text that a script opens with; those of a file stand in no script
 abbrev pub opening_units : Opening → List ℕ
@@ -22,7 +22,7 @@ is_reading c = false
 
 -- the commands of a session, and those that show a text, are within their limits
 abbrev pub is_bounded : List Command → Bool
-is_bounded cs = nat_le (length cs) max_commands && nat_le (count_by is_reading cs) max_reading
+is_bounded cs = nat_le (length cs) MAX_COMMANDS && nat_le (count_by is_reading cs) MAX_READINGS
 
 -- the sessions and the opening text are
 abbrev pub is_within : Script → Bool

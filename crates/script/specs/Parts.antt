@@ -1,9 +1,10 @@
 -- The parts of a JSON value: its members, its items, its strings, its whole numbers and its ranges.
-use Rattle.std.specs.Prelude.{◌≡◌, ℕ, suc, ◌+◌, ◌^◌, ◌==◌, nat_le, List, codes, Bool, true, false, refl, if◌then◌else◌, Option, Some, None, option_map, option_and_then, unwrap_or}
+use Rattle.std.specs.Prelude.{◌≡◌, ℕ, suc, ◌+◌, ◌==◌, nat_le, List, codes, Bool, true, false, refl, if◌then◌else◌, Option, Some, None, option_map, option_and_then, unwrap_or}
 use Rattle.std.specs.Str.{bytes_eq}
 use Rattle.points.specs.declared.point.Point.{Point}
 use Rattle.points.specs.declared.range.Range.{Range}
 use Rattle.points.specs.Point.{point_le}
+use Rattle.points.specs.declared.limits.TheConstants.{MAX_COORD}
 use Rattle.serde_json.specs.Data.{Data, null, boolean, number, string, array, object, Items, no_items, item, Members, no_members, member}
 use Rattle.serde_json.specs.Find.{get, at, as_u64, as_number, as_str, as_array}
 
@@ -63,12 +64,8 @@ range_by start end false h = None
 abbrev pub range_between : Point → Point → Option Range
 range_between start end = range_by start end (point_le start end) refl
 
--- the greatest row or column of a range
-abbrev pub max_coord : ℕ
-max_coord = 2 ^ 30
-
 abbrev pub coordinate : Data → ℕ → Option ℕ
-coordinate d i = option_and_then (whole_of max_coord) (at i d)
+coordinate d i = option_and_then (whole_of MAX_COORD) (at i d)
 
 abbrev pub point_from : Data → ℕ → Option Point
 point_from d i = option_and_then (λ row. option_map (λ column. record { row = row; column = column }) (coordinate d (i + 1))) (coordinate d i)

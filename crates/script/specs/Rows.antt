@@ -1,5 +1,6 @@
 -- The table of a script's commands and reads: the word of each, and the members that it has besides.
-use Rattle.std.specs.Prelude.{ℕ, ◌-◌, ◌^◌, List, [], ◌∷◌, codes}
+use Rattle.std.specs.Prelude.{ℕ, List, [], ◌∷◌, codes}
+use Rattle.script.specs.declared.limits.TheConstants.{MAX_SHOWN, MAX_HITS, MAX_ID}
 
 -- what a member holds
 pub data Kind : Type 0 where
@@ -22,17 +23,6 @@ Field = List ℕ × Kind
 abbrev pub Row : Type 0
 Row = List ℕ × List Field
 
--- the greatest id, and the greatest number of a snapshot
-abbrev pub max_id : ℕ
-max_id = 2 ^ 32 - 1
-
--- the most units of a text that a script may ask for, and the most hits
-abbrev pub max_shown : ℕ
-max_shown = 65536
-
-abbrev pub max_hits : ℕ
-max_hits = 1000
-
 -- the words of a find of marks
 abbrev pub how_words : List (List ℕ)
 how_words = codes "intersecting" ∷ codes "containing" ∷ codes "contained_in" ∷ codes "starting_in" ∷ codes "starting_at" ∷ codes "ending_in" ∷ codes "ending_at" ∷ []
@@ -44,21 +34,21 @@ encoding_words = codes "utf8" ∷ codes "utf16le" ∷ codes "utf16be" ∷ codes 
 abbrev pub command_rows : List Row
 command_rows =
     (codes "edit", (codes "range", range) ∷ (codes "text", text) ∷ [])
-    ∷ (codes "text", (codes "range", range) ∷ (codes "limit", whole max_shown) ∷ [])
+    ∷ (codes "text", (codes "range", range) ∷ (codes "limit", whole MAX_SHOWN) ∷ [])
     ∷ (codes "undo", [])
     ∷ (codes "redo", [])
-    ∷ (codes "mark", (codes "id", whole max_id) ∷ (codes "range", range) ∷ (codes "exclusive", flag) ∷ [])
-    ∷ (codes "unmark", (codes "id", whole max_id) ∷ [])
-    ∷ (codes "exclusive", (codes "id", whole max_id) ∷ (codes "value", flag) ∷ [])
-    ∷ (codes "range", (codes "id", whole max_id) ∷ [])
+    ∷ (codes "mark", (codes "id", whole MAX_ID) ∷ (codes "range", range) ∷ (codes "exclusive", flag) ∷ [])
+    ∷ (codes "unmark", (codes "id", whole MAX_ID) ∷ [])
+    ∷ (codes "exclusive", (codes "id", whole MAX_ID) ∷ (codes "value", flag) ∷ [])
+    ∷ (codes "range", (codes "id", whole MAX_ID) ∷ [])
     ∷ (codes "marks", (codes "how", how) ∷ (codes "range", range) ∷ [])
-    ∷ (codes "compare", (codes "a", whole max_id) ∷ (codes "b", whole max_id) ∷ [])
-    ∷ (codes "watch", (codes "id", whole max_id) ∷ [])
-    ∷ (codes "unwatch", (codes "id", whole max_id) ∷ [])
-    ∷ (codes "take", (codes "snapshot", whole max_id) ∷ [])
-    ∷ (codes "read", (codes "snapshot", whole max_id) ∷ (codes "reads", reads) ∷ [])
-    ∷ (codes "send", (codes "snapshot", whole max_id) ∷ (codes "reads", reads) ∷ [])
-    ∷ (codes "release", (codes "snapshot", whole max_id) ∷ [])
+    ∷ (codes "compare", (codes "a", whole MAX_ID) ∷ (codes "b", whole MAX_ID) ∷ [])
+    ∷ (codes "watch", (codes "id", whole MAX_ID) ∷ [])
+    ∷ (codes "unwatch", (codes "id", whole MAX_ID) ∷ [])
+    ∷ (codes "take", (codes "snapshot", whole MAX_ID) ∷ [])
+    ∷ (codes "read", (codes "snapshot", whole MAX_ID) ∷ (codes "reads", reads) ∷ [])
+    ∷ (codes "send", (codes "snapshot", whole MAX_ID) ∷ (codes "reads", reads) ∷ [])
+    ∷ (codes "release", (codes "snapshot", whole MAX_ID) ∷ [])
     ∷ (codes "squash", [])
     ∷ []
 
@@ -66,9 +56,9 @@ command_rows =
 abbrev pub read_rows : List Row
 read_rows =
     (codes "size", [])
-    ∷ (codes "text", (codes "range", range) ∷ (codes "limit", whole max_shown) ∷ [])
-    ∷ (codes "find", (codes "needle", needle) ∷ (codes "limit", whole max_hits) ∷ [])
-    ∷ (codes "pattern", (codes "pattern", text) ∷ (codes "limit", whole max_hits) ∷ [])
+    ∷ (codes "text", (codes "range", range) ∷ (codes "limit", whole MAX_SHOWN) ∷ [])
+    ∷ (codes "find", (codes "needle", needle) ∷ (codes "limit", whole MAX_HITS) ∷ [])
+    ∷ (codes "pattern", (codes "pattern", text) ∷ (codes "limit", whole MAX_HITS) ∷ [])
     ∷ (codes "save", (codes "name", name) ∷ (codes "encoding", encoding) ∷ [])
     ∷ []
 

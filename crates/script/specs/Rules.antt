@@ -4,11 +4,12 @@ use Rattle.std.specs.List.{list_any, list_all}
 use Rattle.std.specs.Option.{option_or}
 use Rattle.std.specs.Str.{bytes_eq}
 use Rattle.points.specs.Text.{utf16_of}
+use Rattle.points.specs.declared.limits.TheConstants.{MAX_UNITS, MAX_HANDS, MAX_WATCHERS}
+use Rattle.script.specs.declared.limits.TheConstants.{MAX_SESSIONS, MAX_COMMANDS, MAX_READINGS, MAX_SAVES, MAX_FINDS, MAX_NAME, MAX_ID}
 use Rattle.script.specs.declared.refusal.ScriptRule.{ScriptRule}
 use Rattle.script.specs.declared.refusal.ScriptRule.TheVariants.{NotJson, BadShape, TooMany, UnknownSnapshot, SnapshotTaken, BadNumber, BadEncoding, EmptyNeedle, BadName}
-use Rattle.machine.specs.Limits.{MAX_UNITS}
 use Rattle.script.specs.Parts.{member_count, items_in, count_items, string_in, whole_of, whole_in, is_word, range_of}
-use Rattle.script.specs.Rows.{Kind, Field, Row, max_id, how_words, encoding_words, command_rows, read_rows, text_opening, file_opening}
+use Rattle.script.specs.Rows.{Kind, Field, Row, how_words, encoding_words, command_rows, read_rows, text_opening, file_opening}
 use Rattle.script.specs.Rows as kind
 use Rattle.serde_json.specs.Data.{Data, Items, no_items, item}
 use Rattle.serde_json.specs.Find.{get, as_str, as_bool, as_number, as_array, as_u64}
@@ -63,7 +64,7 @@ is_name_byte b = (nat_le 65 b && nat_le b 90) || (nat_le 97 b && nat_le b 122) |
 -- 1 to 64 of these, and no `.` first
 abbrev pub is_name : List ℕ → Bool
 is_name [] = false
-is_name (b ∷ bytes) = not (b == 46) && nat_le (length (b ∷ bytes)) 64 && list_all is_name_byte (b ∷ bytes)
+is_name (b ∷ bytes) = not (b == 46) && nat_le (length (b ∷ bytes)) MAX_NAME && list_all is_name_byte (b ∷ bytes)
 
 abbrev pub wrong_name : Kind → Data → Bool
 wrong_name kind.name d = not (is_some (option_and_then (λ s. if is_name s then Some s else None) (as_str d)))
@@ -143,7 +144,7 @@ names_in no_items = []
 names_in (item d ds) = option_to_list (save_name d) ++ names_in ds
 
 abbrev pub snapshot_in : Data → Option ℕ
-snapshot_in d = whole_in max_id (codes "snapshot") d
+snapshot_in d = whole_in MAX_ID (codes "snapshot") d
 
 -- the number that it names is live
 abbrev pub names_one_of : List ℕ → Option ℕ → Bool
@@ -174,34 +175,11 @@ next b d = record {
 abbrev pub next_session : Before → Before
 next_session b = record b { peaks = b.peaks + b.peak; peak = 0; live = [] }
 
--- ---- the limits of a script
-
-abbrev pub max_sessions : ℕ
-max_sessions = 8
-
-abbrev pub max_commands : ℕ
-max_commands = 65536
-
-abbrev pub max_reading : ℕ
-max_reading = 4096
-
-abbrev pub max_saves : ℕ
-max_saves = 64
-
-abbrev pub max_finds : ℕ
-max_finds = 256
-
-abbrev pub max_watches : ℕ
-max_watches = 64
-
-abbrev pub max_hands : ℕ
-max_hands = 32
-
 -- with this command there is too much of something
 abbrev pub is_too_many : Before → Data → Bool
 is_too_many b d =
-    nat_lt max_commands (next b d).commands || nat_lt max_reading (next b d).reading || nat_lt max_saves (length (next b d).names)
-    || nat_lt max_finds (next b d).marks || nat_lt max_watches (next b d).watches || (is_do (codes "take") d && nat_lt max_hands (b.peaks + length b.live + 1))
+    nat_lt MAX_COMMANDS (next b d).commands || nat_lt MAX_READINGS (next b d).reading || nat_lt MAX_SAVES (length (next b d).names)
+    || nat_lt MAX_FINDS (next b d).marks || nat_lt MAX_WATCHERS (next b d).watches || (is_do (codes "take") d && nat_lt MAX_HANDS (b.peaks + length b.live + 1))
 
 -- one of these names is there already, or stands twice among them
 abbrev pub is_again : List (List ℕ) → List (List ℕ) → Bool
@@ -251,7 +229,7 @@ are_sessions (item d ds) = not (any_item (λ session. not (is_some (as_array ses
 
 -- an object with the members `version`, `open` and `sessions`
 abbrev pub is_document : Data → Bool
-is_document d = (member_count d == 3) && is_version_one d && not (opening_breaks wrong_kind true (get (codes "open") d)) && are_sessions (sessions_in d)
+is_document d = (member_count d == 3) && (is_version_one d && (not (opening_breaks wrong_kind true (get (codes "open") d)) && are_sessions (sessions_in d)))
 
 -- the units of the opening text, where it is one
 abbrev pub opened_text : Data → List ℕ
@@ -261,7 +239,7 @@ opened_text d = unwrap_or (option_map utf16_of (option_and_then (string_in (code
 abbrev pub document_tests : Data → List (Bool × ScriptRule)
 document_tests d =
     (not (is_document d), BadShape)
-    ∷ (nat_lt max_sessions (count_items (sessions_in d)) || nat_lt MAX_UNITS (length (opened_text d)), TooMany)
+    ∷ (nat_lt MAX_SESSIONS (count_items (sessions_in d)) || nat_lt MAX_UNITS (length (opened_text d)), TooMany)
     ∷ (opening_breaks wrong_encoding false (get (codes "open") d), BadEncoding)
     ∷ (opening_breaks wrong_name false (get (codes "open") d), BadName)
     ∷ []

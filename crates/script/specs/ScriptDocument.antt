@@ -10,8 +10,9 @@ use Rattle.script.specs.declared.refusal.ScriptRefusal.{ScriptRefusal}
 use Rattle.script.specs.declared.refusal.ScriptRefusal.TheVariants.{Refused, NoMemory}
 use Rattle.script.specs.declared.refusal.ScriptRule.{ScriptRule}
 use Rattle.script.specs.declared.refusal.ScriptRule.TheVariants.{NotJson, BadShape}
+use Rattle.script.specs.Limits.{is_within}
 use Rattle.script.specs.Parts.{member_count, item_count, string_in, whole_in, is_word, range_in}
-use Rattle.script.specs.Rows.{max_shown}
+use Rattle.script.specs.declared.limits.TheConstants.{MAX_SHOWN}
 use Rattle.script.specs.Rules.{Fault, is_version_one, value_place}
 use Rattle.serde_json.specs.Data.{Data, Items, no_items, item}
 use Rattle.serde_json.specs.Find.{get, at, as_array}
@@ -23,7 +24,7 @@ unfoldable pub edit_of : Data → Option Command
 edit_of d = option_and_then (λ range. option_map (command.Edit range) (string_in (codes "text") d)) (range_in d)
 
 unfoldable pub look_of : Data → Option Command
-look_of d = option_and_then (λ range. option_map (command.Text range) (whole_in max_shown (codes "limit") d)) (range_in d)
+look_of d = option_and_then (λ range. option_map (command.Text range) (whole_in MAX_SHOWN (codes "limit") d)) (range_in d)
 
 -- a command: an object with three members, `do` among them, and the two others that its word asks for
 unfoldable pub command_of : Data → Option Command
@@ -49,6 +50,13 @@ opening_of d = if member_count d == 1 then option_map opening.Text (string_in (c
 -- the script that a JSON value reads as: an object with the three members `version`, which is 1, `open` and `sessions`
 unfoldable pub reading : Data → Option Script
 reading d = if (member_count d == 3) && is_version_one d then option_and_then (λ o. option_map (λ sessions. record { version = 1; opening = o; sessions = sessions }) (option_and_then sessions_of (get (codes "sessions") d))) (option_and_then opening_of (get (codes "open") d)) else None
+
+-- the same within the limits of a script of what is built
+abbrev pub only_within : Script → Option Script
+only_within s = if is_within s then Some s else None
+
+abbrev pub reading_within : Data → Option Script
+reading_within d = option_and_then only_within (reading d)
 
 -- the script that a JSON value is: the one that it reads as, where no place breaks a rule
 unfoldable pub script_of : Data → Option Script

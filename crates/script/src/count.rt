@@ -1,10 +1,12 @@
 //! How many units a text has, and whether the commands of a script are within its limits.
 ghost use Rattle.std.specs.Prelude.{◌≡◌, length, count_by};
+ghost use Rattle.std.specs.List.{list_all};
 ghost use Rattle.points.specs.Text.{utf16_of};
 ghost use Rattle.script.specs.Limits.{opening_units, is_reading, is_bounded, is_within};
 
-use crate::limits::{MAX_COMMANDS, MAX_READING, MAX_UNITS};
-use machine::{Command, Opening, Script};
+use crate::limits::{MAX_COMMANDS, MAX_READINGS};
+use machine::{Command, Opening, Script, Sequence};
+use points::MAX_UNITS;
 
 // The UTF-16 units of a text. It takes no memory.
 fn units_of(text: &str) -> usize
@@ -33,7 +35,7 @@ fn is_bounded(commands: &[Command]) -> bool
         .iter()
         .filter(|command| is_reading(*command))
         .count();
-    commands.len() <= MAX_COMMANDS && reading <= MAX_READING
+    commands.len() <= MAX_COMMANDS && reading <= MAX_READINGS
 }
 
 fn opening_len(opening: &Opening) -> usize
@@ -45,9 +47,19 @@ fn opening_len(opening: &Opening) -> usize
     }
 }
 
+fn are_bounded(sessions: &[Sequence<Command>]) -> bool
+    ensures { result ≡ list_all is_bounded sessions.now }
+{
+    for session in sessions {
+        if !is_bounded(session.as_slice()) {
+            return false;
+        }
+    }
+    true
+}
+
 pub(crate) fn is_within(script: &Script) -> bool
     ensures { result ≡ is_within script.now }
 {
-    opening_len(&script.opening) <= MAX_UNITS
-        && script.sessions.as_slice().iter().all(|session| is_bounded(session.as_slice()))
+    opening_len(&script.opening) <= MAX_UNITS && are_bounded(script.sessions.as_slice())
 }

@@ -16,6 +16,9 @@ mod replies;
 mod values;
 mod write;
 
+pub use limits::{
+    MAX_COMMANDS, MAX_FINDS, MAX_HITS, MAX_ID, MAX_NAME, MAX_READINGS, MAX_SAVES, MAX_SESSIONS, MAX_SHOWN,
+};
 pub use machine::{
     BatchEdit, CallRefusal, Command, Encoding, HitNumbers, How, Opening, Read, ReadAnswer, Reply, ReplyPart,
     Script, Sequence, Span, Text, Transcript, TranscriptEnd,

@@ -2,7 +2,7 @@
 ghost use Rattle.std.specs.Prelude.{◌≡◌, ◌<◌};
 ghost use Rattle.serde_json.specs.Find.{get};
 ghost use Rattle.serde_json.specs.View.{view};
-ghost use Rattle.script.specs.Parts.{member_count, item_count, string_in, whole_of, whole_in, coordinate, point_from, range_between, range_of, range_in, max_coord};
+ghost use Rattle.script.specs.Parts.{member_count, item_count, string_in, whole_of, whole_in, coordinate, point_from, range_between, range_of, range_in};
 ghost use Rattle.script.specs.Reading.{Gives};
 ghost use Rattle.script.specs.declared.parts.Misfit.TheVariants.{NoMemory};
 

@@ -1,7 +1,7 @@
 //! From bytes to a script.
 ghost use Rattle.std.specs.Prelude.{◌≡◌, Some, IfOk, IfErr};
 ghost use Rattle.serde_json.specs.View.{view, items_view};
-ghost use Rattle.script.specs.ScriptDocument.{edit_of, look_of, command_of, commands_of, session_of, sessions_of, opened_by, opening_of, script_of, document, script_in, script_place, IsRefusalAt};
+ghost use Rattle.script.specs.ScriptDocument.{edit_of, look_of, command_of, commands_of, session_of, sessions_of, opening_of, reading, reading_within, document, script_in, script_place, IsRefusalAt};
 ghost use Rattle.script.specs.Rules.{is_version_one};
 ghost use Rattle.script.specs.Reading.{Gives};
 ghost use Rattle.script.specs.Limits.{is_within, IsWithinLimits};
@@ -120,6 +120,17 @@ fn reading(alloc: Global, value: &Value) -> Result<Script, Misfit>
     })
 }
 
+fn reading_within(alloc: Global, value: &Value) -> Result<Script, Misfit>
+    ensures { Gives (λ s. s) result (reading_within (view value.now)) }
+{
+    let script = reading(alloc, value)?;
+    if is_within(&script) {
+        Ok(script)
+    } else {
+        Err(Misfit::Shape)
+    }
+}
+
 fn refused(why: ScriptRule) -> ScriptRefusal
     ensures { result ≡ ScriptRefusal.Refused 0 0 why }
 {
@@ -142,9 +153,8 @@ pub fn read_script(alloc: Global, bytes: &[u8]) -> Result<Script, ScriptRefusal>
         Err(error) if error.is_memory() => return Err(ScriptRefusal::NoMemory),
         Err(_) => return Err(refused(ScriptRule::NotJson)),
     };
-    match reading(alloc, &value) {
-        Ok(script) if is_within(&script) => Ok(script),
-        Ok(_) => Err(refused(ScriptRule::BadShape)),
+    match reading_within(alloc, &value) {
+        Ok(script) => Ok(script),
         Err(Misfit::Shape) => Err(refused(ScriptRule::BadShape)),
         Err(Misfit::NoMemory) => Err(ScriptRefusal::NoMemory),
     }
