@@ -15,4 +15,4 @@ mod text;
 pub use ending::Ending;
 pub use refusal::TextRefusal;
 pub use rows::splits_pair;
-pub use text::{LineText, MAX_UNITS, Replaced};
+pub use text::{LineText, Replaced};

@@ -1,1 +1,9 @@
 pub mod PlainRuns
+pub mod StepLemmas
+pub mod Bare
+pub mod History
+pub mod Forms
+pub mod OneSession
+pub mod InOrder
+pub mod Sides
+pub mod OnlyPlain
