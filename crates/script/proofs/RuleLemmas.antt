@@ -8,6 +8,9 @@ use Rattle.std.proofs.lemmas.Option.{none-some, cond_some, option_and_then_some}
 use Rattle.std.proofs.lemmas.Bool.{leb-true, le-ltb, ltb-false, le-leb, eqb-true, and_parts, and_from, not-false, false≢true}
 use Rattle.points.specs.declared.limits.TheConstants.{MAX_UNITS, MAX_WATCHERS}
 use Rattle.points.specs.declared.range.Range.{Range}
+use Rattle.points.specs.Text.{utf16_of}
+use Rattle.machine.specs.Answers.{opening_text}
+use Rattle.machine.specs.Bare.{is_plain}
 use Rattle.machine.specs.declared.command.Command.{Command}
 use Rattle.machine.specs.declared.command.Command.TheVariants as command
 use Rattle.machine.specs.declared.command.Opening.{Opening}
@@ -16,11 +19,11 @@ use Rattle.machine.specs.declared.command.Script.{Script}
 use Rattle.script.specs.declared.limits.TheConstants.{MAX_SESSIONS, MAX_COMMANDS, MAX_READINGS, MAX_SAVES, MAX_FINDS, MAX_SHOWN}
 use Rattle.script.specs.declared.refusal.ScriptRule.{ScriptRule}
 use Rattle.script.specs.declared.refusal.ScriptRule.TheVariants.{BadShape, TooMany, UnknownSnapshot, SnapshotTaken, BadNumber}
-use Rattle.script.specs.Limits.{opening_units, is_reading, is_bounded, is_within}
+use Rattle.script.specs.Limits.{is_opening_within, is_reading, is_bounded, is_within}
 use Rattle.script.specs.Parts.{member_count, count_items, whole_of, range_of}
 use Rattle.script.specs.ScriptDocument.{reading, only_within, reading_within, script_of}
 use Rattle.script.specs.Rules.{Before, at_start, next, command_tests, command_breaks, wrong_kind, wrong_number, is_too_many, needs_live, is_live, is_do, document_tests, Fault, first_broken, fault_at, is_document, is_version_one, opening_breaks, are_sessions, sessions_in, opened_text, place_in_session, value_place}
-use Rattle.script.specs.ScriptValue.{range_value, command_value, session_value, opening_value, script_value, is_built_command, is_built_opening, is_built, BreaksNoRule}
+use Rattle.script.specs.ScriptValue.{range_value, command_value, session_value, opening_value, script_value, is_built, BreaksNoRule}
 use Rattle.script.specs.TranscriptDocument.{whole}
 use Rattle.script.proofs.KeyOrder.{IsInKeyOrder}
 use Rattle.script.proofs.Readable.{IsRangeWithin, IsReadable, IsReadableScript, readable_built}
@@ -155,7 +158,7 @@ room_back b commands readings saves finds watches h =
     let parts = few_back (nat_lt MAX_COMMANDS commands) (nat_lt MAX_READINGS readings) (nat_lt MAX_SAVES saves) (nat_lt MAX_FINDS finds) (nat_lt MAX_WATCHERS watches) false h in
     (ltb-false _ _ parts.0, ltb-false _ _ parts.1)
 
-step_back : (b : Before) (c : Command) → is_built_command c ≡ true → first_broken (command_tests b (command_value c)) ≡ None → IsPassed b c
+step_back : (b : Before) (c : Command) → is_plain c ≡ true → first_broken (command_tests b (command_value c)) ≡ None → IsPassed b c
 step_back b (command.Edit range text) built e =
     let tests = tests_pass b (command_value (command.Edit range text)) e in
     let room = room_back b (b.commands + 1) (b.reading + 0) (length (b.names ++ [])) (b.marks + 0) (b.watches + 0) tests.0 in
@@ -173,12 +176,12 @@ record ArePassed (b : Before) (cs : List Command) : Type 0 where
   commands : b.commands + length cs ≤ MAX_COMMANDS
   readings : b.reading + count_by is_reading cs ≤ MAX_READINGS
 
-commands_back : (session n : ℕ) (b : Before) (cs : List Command) → list_all is_built_command cs ≡ true → b.commands ≤ MAX_COMMANDS → b.reading ≤ MAX_READINGS
+commands_back : (session n : ℕ) (b : Before) (cs : List Command) → list_all is_plain cs ≡ true → b.commands ≤ MAX_COMMANDS → b.reading ≤ MAX_READINGS
     → place_in_session session n b (items_of (map command_value cs)) ≡ None → ArePassed b cs
 commands_back session n b [] built commands readings e = record { readable = tt; commands = omega arith; readings = let none : count_by is_reading [] ≡ 0 = refl in omega arith }
 commands_back session n b (c ∷ cs) built commands readings e =
     let parts = neither _ _ e in
-    let all = and_parts (is_built_command c) (list_all is_built_command cs) built in
+    let all = and_parts (is_plain c) (list_all is_plain cs) built in
     let own = step_back b c all.0 (no_fault session n (command_tests b (command_value c)) parts.0) in
     let after : (next b (command_value c)).reading ≡ b.reading + readings_of c = reading_after b c own.readable in
     let rest = commands_back session (n + 1) (next b (command_value c)) cs all.1 own.commands (omega (arith, own.readings)) parts.1 in
@@ -186,11 +189,11 @@ commands_back session n b (c ∷ cs) built commands readings e =
 
 -- ---- the whole script
 
-parts_pass : (o : Opening) (sessions : List (List Command)) → is_built_opening o ≡ true → length sessions ≡ 1 → AllByRecursion (AllByRecursion IsReadable) sessions
-    → (nat_le (length (opening_units o)) MAX_UNITS && list_all is_bounded sessions) ≡ true → value_place (script_value (record { version = 1; opening = o; sessions = sessions })) ≡ None
+parts_pass : (o : Opening) (sessions : List (List Command)) → is_some (opening_text o) ≡ true → length sessions ≡ 1 → AllByRecursion (AllByRecursion IsReadable) sessions
+    → (is_opening_within (opening_text o) && list_all is_bounded sessions) ≡ true → value_place (script_value (record { version = 1; opening = o; sessions = sessions })) ≡ None
 unfolding value_place
 parts_pass (opening.Text text) (cs ∷ []) built one h is =
-    let parts = and_parts (nat_le (length (opening_units (opening.Text text))) MAX_UNITS) (is_bounded cs && true) is in
+    let parts = and_parts (nat_le (length (utf16_of text)) MAX_UNITS) (is_bounded cs && true) is in
     let bounded = and_parts (is_bounded cs) true parts.1 in
     let sizes = and_parts (nat_le (length cs) MAX_COMMANDS) (nat_le (count_by is_reading cs) MAX_READINGS) bounded.0 in
     let plain : IsPlain at_start = record { names = omega arith; finds = omega arith; watches = omega arith } in
@@ -225,7 +228,7 @@ version_is_one d h =
 abbrev made : ℕ → Opening → List (List Command) → Script
 made version o sessions = record { version = version; opening = o; sessions = sessions }
 
-parts_back : (n : ℕ) (o : Opening) (sessions : List (List Command)) → length sessions ≡ 1 → is_built_opening o ≡ true → list_all (list_all is_built_command) sessions ≡ true
+parts_back : (n : ℕ) (o : Opening) (sessions : List (List Command)) → length sessions ≡ 1 → is_some (opening_text o) ≡ true → list_all (list_all is_plain) sessions ≡ true
     → value_place (script_value (made n o sessions)) ≡ None → IsReadableScript (made n o sessions) × (is_within (made n o sessions) ≡ true)
 unfolding value_place
 parts_back n (opening.Text text) (cs ∷ []) one built commands h =
@@ -233,9 +236,9 @@ parts_back n (opening.Text text) (cs ∷ []) one built commands h =
     let own = neither (fault_at 0 0 (document_tests d)) _ h in
     let document = document_pass d own.0 in
     let version : (n == 1) ≡ true = version_is_one d (not-false (is_document d) document.0) in
-    let units : length (opening_units (opening.Text text)) ≤ MAX_UNITS = ltb-false _ _ document.1 in
+    let units : length (utf16_of text) ≤ MAX_UNITS = ltb-false _ _ document.1 in
     let session = neither (place_in_session 1 1 at_start (items_of (map command_value cs))) None own.1 in
-    let all = and_parts (list_all is_built_command cs) true commands in
+    let all = and_parts (list_all is_plain cs) true commands in
     let passed = commands_back 1 1 at_start cs all.0 (omega arith) (omega arith) session.0 in
     let few : length cs ≤ MAX_COMMANDS = omega (arith, passed.commands) in
     let readings : count_by is_reading cs ≤ MAX_READINGS = omega (arith, passed.readings) in
@@ -248,9 +251,9 @@ parts_back n o (cs ∷ ds ∷ rest) one built commands h = absurd (omega arith)
 -- a script of what is built that breaks no rule is within the limits
 pub script_back : (s : Script) → is_built s ≡ true → BreaksNoRule s → IsReadableScript s × (is_within s ≡ true)
 script_back s built h =
-    let parts = and_parts ((length s.sessions == 1) && is_built_opening s.opening) (list_all (list_all is_built_command) s.sessions) built in
-    let first = and_parts (length s.sessions == 1) (is_built_opening s.opening) parts.0 in
-    parts_back s.version s.opening s.sessions (eqb-true _ _ first.0) first.1 parts.1 h
+    let parts = and_parts (length s.sessions == 1) (is_some (opening_text s.opening) && list_all (list_all is_plain) s.sessions) built in
+    let more = and_parts (is_some (opening_text s.opening)) (list_all (list_all is_plain) s.sessions) parts.1 in
+    parts_back s.version s.opening s.sessions (eqb-true _ _ parts.0) more.0 more.1 h
 
 -- ---- reading where no place breaks a rule
 

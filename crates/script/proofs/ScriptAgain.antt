@@ -1,5 +1,5 @@
 -- A script of what is built is read again from its JSON value.
-use Rattle.std.proofs.Common.{◌≡◌, ◌+◌, ◌≤◌, ℕ, List, [], ◌∷◌, length, map, true, Some, refl, arith}
+use Rattle.std.proofs.Common.{◌≡◌, ◌+◌, ◌≤◌, ℕ, List, [], ◌∷◌, length, map, true, is_some, Some, refl, arith}
 use Rattle.std.specs.List.{AllByRecursion}
 use Rattle.std.proofs.lemmas.Bool.{le-leb, false≢true}
 use Rattle.points.specs.declared.limits.TheConstants.{MAX_COORD}
@@ -10,10 +10,11 @@ use Rattle.machine.specs.declared.command.Command.TheVariants as command
 use Rattle.machine.specs.declared.command.Opening.{Opening}
 use Rattle.machine.specs.declared.command.Opening.TheVariants as opening
 use Rattle.machine.specs.declared.command.Script.{Script}
+use Rattle.machine.specs.Answers.{opening_text}
 use Rattle.script.specs.declared.limits.TheConstants.{MAX_SHOWN}
 use Rattle.script.specs.Parts.{within, coordinate, point_from, range_of}
 use Rattle.script.specs.ScriptDocument.{edit_of, look_of, command_of, commands_of, session_of, sessions_of, opening_of, reading}
-use Rattle.script.specs.ScriptValue.{range_value, command_value, session_value, opening_value, script_value, is_built_opening}
+use Rattle.script.specs.ScriptValue.{range_value, command_value, session_value, opening_value, script_value}
 use Rattle.script.specs.TranscriptDocument.{list_value}
 use Rattle.script.proofs.Counting.{range_in_order}
 use Rattle.script.proofs.Readable.{IsRangeWithin, IsReadable, IsReadableScript}
@@ -53,7 +54,7 @@ sessions_again [] one h = absurd (omega arith)
 sessions_again (cs ∷ []) one h = rw (session_again cs h.0) refl
 sessions_again (cs ∷ ds ∷ rest) one h = absurd (omega arith)
 
-opening_again : (o : Opening) → is_built_opening o ≡ true → opening_of (opening_value o) ≡ Some o
+opening_again : (o : Opening) → is_some (opening_text o) ≡ true → opening_of (opening_value o) ≡ Some o
 unfolding opening_of
 opening_again (opening.Text text) h = refl
 opening_again (opening.File name encoding) h = absurd (false≢true h)

@@ -14,11 +14,12 @@ use Rattle.machine.specs.declared.command.Opening.{Opening}
 use Rattle.machine.specs.declared.command.Opening.TheVariants as opening
 use Rattle.machine.specs.declared.command.Script.{Script}
 use Rattle.points.specs.declared.limits.TheConstants.{MAX_COORD}
+use Rattle.machine.specs.Answers.{opening_text}
 use Rattle.script.specs.declared.limits.TheConstants.{MAX_SHOWN}
 use Rattle.script.specs.ScriptDocument.{edit_of, look_of, command_of, commands_of, session_of, sessions_of, opening_of, reading}
 use Rattle.script.specs.Parts.{member_count, item_count, string_in, whole_of, whole_in, coordinate, point_from, range_by, range_between, range_of, range_in, is_word}
 use Rattle.script.specs.Rules.{is_version_one, is_one}
-use Rattle.script.specs.ScriptValue.{range_value, command_value, session_value, opening_value, script_value, is_built_opening}
+use Rattle.script.specs.ScriptValue.{range_value, command_value, session_value, opening_value, script_value}
 use Rattle.script.specs.TranscriptDocument.{whole, list_value}
 use Rattle.script.proofs.KeyLemmas.{Ascend, all_keys, three_members, one_member}
 use Rattle.script.proofs.KeyOrder.{IsInKeyOrder, ItemsInKeyOrder}
@@ -252,14 +253,14 @@ sessions_exact d sessions sorted e =
     let one = session_exact f.0 session sorted_inner.0 inner in
     subst (IsOneSession d) is (record { is = f.1 ∙ ap (λ v. array (item v no_items)) one.0; one = refl; commands = (one.1, tt) }))
 
-opening_exact : (d : Data) (o : Opening) → IsInKeyOrder d → opening_of d ≡ Some o → (d ≡ opening_value o) × (is_built_opening o ≡ true)
+opening_exact : (d : Data) (o : Opening) → IsInKeyOrder d → opening_of d ≡ Some o → (d ≡ opening_value o) × (is_some (opening_text o) ≡ true)
 unfolding opening_of
 opening_exact d o sorted e =
     let t = test_some (member_count d == 1) _ o e in
     behind_map opening.Text (string_in (codes "text") d) o t.1 (λ text text_is is.
     let part = one_of (codes "text") d sorted (eqb-true (member_count d) 1 t.0) (there as_str _ _ text_is) in
     let x = string_exact part.0 text (subst (λ v. string_in (codes "text") v ≡ Some text) part.1 text_is) in
-    subst (λ v. (d ≡ opening_value v) × (is_built_opening v ≡ true)) is (part.1 ∙ rw x refl, refl))
+    subst (λ v. (d ≡ opening_value v) × (is_some (opening_text v) ≡ true)) is (part.1 ∙ rw x refl, refl))
 
 one_exact : (o : Option ℕ) → is_one o ≡ true → o ≡ Some 1
 one_exact None e = absurd (true≢false (sym e))

@@ -1,5 +1,5 @@
 -- The JSON value of a script, and the scripts that break no rule.
-use Rattle.std.specs.Prelude.{◌≡◌, ℕ, List, [], ◌∷◌, ◌&&◌, ◌==◌, length, codes, Bool, true, false, None}
+use Rattle.std.specs.Prelude.{◌≡◌, ℕ, List, [], ◌∷◌, ◌&&◌, ◌==◌, length, codes, Bool, None, is_some}
 use Rattle.std.specs.List.{list_all}
 use Rattle.points.specs.declared.range.Range.{Range}
 use Rattle.machine.specs.declared.command.BatchEdit.{BatchEdit}
@@ -14,6 +14,8 @@ use Rattle.machine.specs.declared.reads.Encoding.{Encoding}
 use Rattle.machine.specs.declared.reads.Encoding.TheVariants as encoding
 use Rattle.machine.specs.declared.reads.Read.{Read}
 use Rattle.machine.specs.declared.reads.Read.TheVariants as read
+use Rattle.machine.specs.Answers.{opening_text}
+use Rattle.machine.specs.Bare.{is_plain}
 use Rattle.script.specs.Rules.{value_place}
 use Rattle.script.specs.TranscriptDocument.{whole, list_value}
 use Rattle.serde_json.specs.Data.{Data, boolean, string, array, object, no_items, item, Members, no_members, member}
@@ -91,16 +93,6 @@ script_value s =
 abbrev pub BreaksNoRule : Script → Type 0
 BreaksNoRule s = value_place (script_value s) ≡ None
 
--- the commands and the opening that are built
-abbrev pub is_built_command : Command → Bool
-is_built_command (command.Edit range text) = true
-is_built_command (command.Text range limit) = true
-is_built_command c = false
-
-abbrev pub is_built_opening : Opening → Bool
-is_built_opening (opening.Text text) = true
-is_built_opening (opening.File name e) = false
-
--- a script of what is built: one session of these commands over such an opening
+-- a script of what is built: one session of edits and looks over a text
 abbrev pub is_built : Script → Bool
-is_built s = (length s.sessions == 1) && is_built_opening s.opening && list_all (list_all is_built_command) s.sessions
+is_built s = (length s.sessions == 1) && (is_some (opening_text s.opening) && list_all (list_all is_plain) s.sessions)

@@ -2,7 +2,8 @@
 ghost use Rattle.std.specs.Prelude.{◌≡◌, length, count_by};
 ghost use Rattle.std.specs.List.{list_all};
 ghost use Rattle.points.specs.Text.{utf16_of};
-ghost use Rattle.script.specs.Limits.{opening_units, is_reading, is_bounded, is_within};
+ghost use Rattle.machine.specs.Answers.{opening_text};
+ghost use Rattle.script.specs.Limits.{is_opening_within, is_reading, is_bounded, is_within};
 
 use crate::limits::{MAX_COMMANDS, MAX_READINGS};
 use machine::{Command, Opening, Script, Sequence};
@@ -38,12 +39,12 @@ fn is_bounded(commands: &[Command]) -> bool
     commands.len() <= MAX_COMMANDS && reading <= MAX_READINGS
 }
 
-fn opening_len(opening: &Opening) -> usize
-    ensures { result ≡ length (opening_units opening.now) }
+fn is_opening_within(opening: &Opening) -> bool
+    ensures { result ≡ is_opening_within (opening_text opening.now) }
 {
     match opening {
-        Opening::Text { text } => units_of(text.as_str()),
-        Opening::File { .. } => 0,
+        Opening::Text { text } => units_of(text.as_str()) <= MAX_UNITS,
+        Opening::File { .. } => false,
     }
 }
 
@@ -61,5 +62,5 @@ fn are_bounded(sessions: &[Sequence<Command>]) -> bool
 pub(crate) fn is_within(script: &Script) -> bool
     ensures { result ≡ is_within script.now }
 {
-    opening_len(&script.opening) <= MAX_UNITS && are_bounded(script.sessions.as_slice())
+    is_opening_within(&script.opening) && are_bounded(script.sessions.as_slice())
 }
