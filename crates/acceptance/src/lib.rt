@@ -6,3 +6,5 @@
 mod line_text_tests;
 #[cfg(test)]
 mod points_tests;
+#[cfg(test)]
+mod script_tests;

@@ -17,15 +17,13 @@ mod values;
 mod write;
 
 pub use limits::{
-    MAX_COMMANDS, MAX_FINDS, MAX_HITS, MAX_ID, MAX_NAME, MAX_READINGS, MAX_SAVES, MAX_SESSIONS, MAX_SHOWN,
+    MAX_COMMANDS, MAX_FINDS, MAX_HITS, MAX_ID, MAX_NAME, MAX_READINGS, MAX_SAVES, MAX_SESSIONS,
+    MAX_SHOWN,
 };
 pub use machine::{
-    BatchEdit, CallRefusal, Command, Encoding, HitNumbers, How, Opening, Read, ReadAnswer, Reply, ReplyPart,
-    Script, Sequence, Span, Text, Transcript, TranscriptEnd,
+    BatchEdit, CallRefusal, Command, Encoding, HitNumbers, How, Opening, Read, ReadAnswer, Reply,
+    ReplyPart, Script, Sequence, Span, Text, Transcript, TranscriptEnd,
 };
 pub use read::read_script;
 pub use refusal::{ScriptRefusal, ScriptRule};
 pub use write::transcript_bytes;
-
-#[cfg(test)]
-mod tests;

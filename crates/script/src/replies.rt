@@ -177,11 +177,21 @@ impl HasValue for Reply {
 
     fn value(&self, alloc: Global) -> Result<Value, AllocError> {
         match self {
-            Reply::Edited { at, end, from, hits, to } => edited_value(alloc, *at, end, from, hits, to),
+            Reply::Edited {
+                at,
+                end,
+                from,
+                hits,
+                to,
+            } => edited_value(alloc, *at, end, from, hits, to),
             Reply::Batched { at, edits } => batched_value(alloc, *at, edits.as_slice()),
             Reply::Text { at, text, units } => text_value(alloc, *at, text.as_str(), *units),
             Reply::Numbered { at } => numbered_value(alloc, *at),
-            Reply::Range { at, exclusive, range } => range_value(alloc, *at, *exclusive, range),
+            Reply::Range {
+                at,
+                exclusive,
+                range,
+            } => range_value(alloc, *at, *exclusive, range),
             Reply::Marks { at, ids } => marks_value(alloc, *at, ids.as_slice()),
             Reply::Order { at, order } => order_value(alloc, *at, *order),
             Reply::Heard { at, heard } => heard_value(alloc, *at, *heard),
