@@ -5,6 +5,8 @@
 #[cfg(test)]
 mod line_text_tests;
 #[cfg(test)]
+mod machine_tests;
+#[cfg(test)]
 mod points_tests;
 #[cfg(test)]
 mod script_tests;

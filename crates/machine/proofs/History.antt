@@ -10,8 +10,9 @@ use Rattle.std.proofs.lemmas.List.{length-map}
 use Rattle.machine.specs.Machine.{State, opened, Call, step, after}
 use Rattle.machine.specs.Answers.{reply_of}
 use Rattle.machine.specs.Lawful.{Entry, has_number, numbered, state_after, CallsAgree, IsChange}
+use Rattle.machine.specs.Histories.{number_in}
 use Rattle.machine.specs.Laws.{IsNumbered}
-use Rattle.machine.proofs.StepLemmas.{step_counts}
+use Rattle.machine.proofs.StepLemmas.{step_counts, step_numbers}
 
 abbrev pub entry_of : ℕ → State → Call → Entry
 entry_of version s c = record { call = c; at = s.count + 1; reply = reply_of version (s.count + 1) (step s c).1 }
@@ -21,19 +22,22 @@ abbrev pub history : ℕ → State → List Call → List Entry
 history version s [] = []
 history version s (c ∷ cs) = entry_of version s c ∷ history version (step s c).0 cs
 
-abbrev pub number_in : Entry → ℕ
-number_in e = e.at
-
 pub length-history : (version : ℕ) (s : State) (cs : List Call) → length (history version s cs) ≡ length cs
 length-history version s [] = refl
 length-history version s (c ∷ cs) = ap suc (length-history version (step s c).0 cs)
 
 -- the entry of the call at n: where it is found, and what it answered
-record HasEntry (version : ℕ) (s : State) (cs : List Call) (n : ℕ) : Type 0 where
-  entry : Entry
-  found : find (has_number (s.count + suc n)) (history version s cs) ≡ Some entry
-  reply : entry.reply ≡ reply_of version (s.count + suc n) (step (after s (take n cs)) entry.call).1
-  follows : after s (take (suc n) cs) ≡ (step (after s (take n cs)) entry.call).0
+pub record HasEntry (version : ℕ) (s : State) (cs : List Call) (n : ℕ) : Type 0 where
+  pub entry : Entry
+  pub found : find (has_number (s.count + suc n)) (history version s cs) ≡ Some entry
+  pub reply : entry.reply ≡ reply_of version (s.count + suc n) (step (after s (take n cs)) entry.call).1
+  pub follows : after s (take (suc n) cs) ≡ (step (after s (take n cs)) entry.call).0
+  pub only : AllByRecursion (λ x. x.at ≡ s.count + suc n → x ≡ entry) (history version s cs)
+
+-- no later entry has a number up to the count
+none_later : (version : ℕ) (s : State) (cs : List Call) (m : ℕ) (e : Entry) → m ≤ s.count → AllByRecursion (λ x. x.at ≡ m → x ≡ e) (history version s cs)
+none_later version s [] m e h = tt
+none_later version s (c ∷ cs) m e h = ((λ same. absurd (omega (arith, same, h))), none_later version (step s c).0 cs m e (omega (arith, h, step_counts s c)))
 
 -- the first entry has no later number
 ahead : (s : State) (n : ℕ) → eqb (s.count + 1) (s.count + suc (suc n)) ≡ false
@@ -42,9 +46,9 @@ ahead s n = ne_eqb _ _ (λ e. omega (arith, e))
 first : (s : State) → eqb (s.count + 1) (s.count + suc zero) ≡ true
 first s = eq-eqb _ _ (omega arith)
 
-has_entry : (version : ℕ) (s : State) (cs : List Call) (n : ℕ) → n < length cs → HasEntry version s cs n
+pub has_entry : (version : ℕ) (s : State) (cs : List Call) (n : ℕ) → n < length cs → HasEntry version s cs n
 has_entry version s [] n h = absurd (omega arith)
-has_entry version s (c ∷ cs) zero h = record { entry = entry_of version s c; found = rw (first s) refl; reply = refl; follows = refl }
+has_entry version s (c ∷ cs) zero h = record { entry = entry_of version s c; found = rw (first s) refl; reply = refl; follows = refl; only = ((λ same. refl), none_later version (step s c).0 cs (s.count + suc zero) _ (omega (arith, step_counts s c))) }
 has_entry version s (c ∷ cs) (suc n) h =
     let later : HasEntry version (step s c).0 cs n = has_entry version (step s c).0 cs n (omega arith) in
     let same : (step s c).0.count + suc n ≡ s.count + suc (suc n) = omega (arith, step_counts s c) in
@@ -53,6 +57,7 @@ has_entry version s (c ∷ cs) (suc n) h =
       found = rw (ahead s n) (subst (λ m. find (has_number m) (history version (step s c).0 cs) ≡ Some later.entry) same later.found);
       reply = subst (λ m. later.entry.reply ≡ reply_of version m (step (after (step s c).0 (take n cs)) later.entry.call).1) same later.reply;
       follows = later.follows;
+      only = ((λ e. absurd (omega (arith, e))), subst (λ m. AllByRecursion (λ x. x.at ≡ m → x ≡ later.entry) (history version (step s c).0 cs)) same later.only);
     }
 
 -- no number is at most the count, and each number beyond it is there once
@@ -89,21 +94,30 @@ pub beyond : (version : ℕ) (s : State) (cs : List Call) (v : ℕ) → v ≤ s.
 beyond version s [] v h = tt
 beyond version s (c ∷ cs) v h = (omega (arith, h), beyond version (step s c).0 cs v (omega (arith, h, step_counts s c)))
 
--- the state after the first n calls
-pub state_after-history : (version : ℕ) (opening : List ℕ) (cs : List Call) (n : ℕ) → n ≤ length cs → state_after (opened opening) (history version (opened opening) cs) n ≡ after (opened opening) (take n cs)
-state_after-history version opening cs zero h = refl
-state_after-history version opening cs (suc n) h =
-    let e : HasEntry version (opened opening) cs n = has_entry version (opened opening) cs n (omega arith) in
-    let found : numbered (history version (opened opening) cs) (suc n) ≡ Some e.entry = subst (λ m. find (has_number m) (history version (opened opening) cs) ≡ Some e.entry) (zero-add (suc n)) e.found in
-    rw (state_after-history version opening cs n (omega arith), found) (sym e.follows)
+-- the list has the entries of these calls, in any order
+abbrev pub Finds : ℕ → List ℕ → List Call → List Entry → Type 0
+Finds version opening cs es = (n : ℕ) (h : n < length cs) → numbered es (suc n) ≡ Some (has_entry version (opened opening) cs n h).entry
 
-pub calls_agree : (version : ℕ) (opening : List ℕ) (cs : List Call) → CallsAgree version (opened opening) (history version (opened opening) cs)
-calls_agree version opening cs n h =
-    let small : n < length cs = omega (arith, h, length-history version (opened opening) cs) in
+pub history_finds : (version : ℕ) (opening : List ℕ) (cs : List Call) → Finds version opening cs (history version (opened opening) cs)
+history_finds version opening cs n h =
+    let e : HasEntry version (opened opening) cs n = has_entry version (opened opening) cs n h in
+    subst (λ m. find (has_number m) (history version (opened opening) cs) ≡ Some e.entry) (zero-add (suc n)) e.found
+
+-- the state after the first n calls
+pub state_after-finds : (version : ℕ) (opening : List ℕ) (cs : List Call) (es : List Entry) → Finds version opening cs es → (n : ℕ) → n ≤ length cs → state_after (opened opening) es n ≡ after (opened opening) (take n cs)
+state_after-finds version opening cs es finds zero h = refl
+state_after-finds version opening cs es finds (suc n) h =
+    let small : n < length cs = omega (arith, h) in
+    rw (state_after-finds version opening cs es finds n (omega (arith, h)), finds n small) (sym (has_entry version (opened opening) cs n small).follows)
+
+pub calls_agree-finds : (version : ℕ) (opening : List ℕ) (cs : List Call) (es : List Entry) → Finds version opening cs es → length es ≡ length cs → CallsAgree version (opened opening) es
+calls_agree-finds version opening cs es finds same n h =
+    let small : n < length cs = omega (arith, h, same) in
     let e : HasEntry version (opened opening) cs n = has_entry version (opened opening) cs n small in
-    let found : numbered (history version (opened opening) cs) (n + 1) ≡ Some e.entry = subst (λ m. find (has_number m) (history version (opened opening) cs) ≡ Some e.entry) (omega arith) e.found in
+    let one : suc n ≡ n + 1 = omega arith in
+    let found : numbered es (n + 1) ≡ Some e.entry = subst (λ m. numbered es m ≡ Some e.entry) one (finds n small) in
     let reply : e.entry.reply ≡ reply_of version (n + 1) (step (after (opened opening) (take n cs)) e.entry.call).1 = subst (λ m. e.entry.reply ≡ reply_of version m (step (after (opened opening) (take n cs)) e.entry.call).1) (omega arith) e.reply in
-    rw (found, state_after-history version opening cs n (omega arith)) reply
+    rw (found, state_after-finds version opening cs es finds n (omega (arith, small))) reply
 
 -- the call behind the first k ones
 pub record Follows (s : State) (cs : List Call) (k : ℕ) (c : Call) (behind : List Call) : Type 0 where
@@ -162,3 +176,28 @@ next_version start es k s t before count within here numbers = elim numbers.vers
   | inl kept ↦ kept_version start es k s t before count here kept.0 kept.1
   | inr new ↦ new_version start es k t within here (omega (arith, new, numbers.count, count))
 ]
+
+-- where a run stands behind its first k calls
+pub record Stands (opening : List ℕ) (es : List Entry) (all : List Call) (k : ℕ) (s : State) (left : List Call) : Type 0 where
+  pub here : s ≡ after (opened opening) (take k all)
+  pub rest : drop k all ≡ left
+  pub within : k ≤ length all
+  pub count : s.count ≡ k
+  pub shows : IsVersion (opened opening) es k s
+
+pub stands_at_start : (opening : List ℕ) (es : List Entry) (all : List Call) → Stands opening es all 0 (opened opening) all
+stands_at_start opening es all = record { here = refl; rest = refl; within = omega arith; count = refl; shows = version_at_start opening es }
+
+-- behind one call more
+pub stands_on : (version : ℕ) (opening : List ℕ) (es : List Entry) (all : List Call) (k : ℕ) (s : State) (c : Call) (left : List Call) → Finds version opening all es → length es ≡ length all → Stands opening es all k s (c ∷ left) → Stands opening es all (suc k) (step s c).0 left
+stands_on version opening es all k s c left finds same at =
+    let f : Follows (opened opening) all k c left = follows (opened opening) all k c left at.rest in
+    let there : (step s c).0 ≡ after (opened opening) (take (suc k) all) = ap (λ x. (step x c).0) at.here ∙ sym f.state in
+    let reached : state_after (opened opening) es (suc k) ≡ (step s c).0 = state_after-finds version opening all es finds (suc k) f.within ∙ sym there in
+    record {
+      here = there;
+      rest = f.rest;
+      within = f.within;
+      count = step_counts s c ∙ ap suc at.count;
+      shows = next_version (opened opening) es k s (step s c).0 at.shows at.count (omega (arith, f.within, same)) reached (step_numbers s c);
+    }

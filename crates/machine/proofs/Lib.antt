@@ -7,3 +7,5 @@ pub mod OneSession
 pub mod InOrder
 pub mod Sides
 pub mod OnlyPlain
+pub mod ManySessions
+pub mod SessionRuns

@@ -12,11 +12,12 @@ use Rattle.machine.specs.declared.reads.ReadAnswer.{ReadAnswer}
 use Rattle.machine.specs.declared.reply.Reply.{Reply}
 use Rattle.machine.specs.Machine.{State, opened, Call, step, after}
 use Rattle.machine.specs.Answers.{call_of, number_of, Matches, read_answer}
-use Rattle.machine.specs.Lawful.{have_forms, Entry, with_entry, session_entries, entries, with_number, numbers, has_number, state_after, HasForm, EndAgrees, SnapshotsAgree, IsLawful, AnswersAs, IsAsked, asked_in, asked_of, reads_of, ends, answers_in, next_told, told_after, patterns_in, Taking, with_taking, takings, last_number, IsTakingLawful}
+use Rattle.machine.specs.Histories.{number_in}
+use Rattle.machine.specs.Lawful.{have_forms, Entry, with_entry, session_entries, entries, with_number, numbers, has_number, HasForm, EndAgrees, SnapshotsAgree, IsLawful, AnswersAs, IsAsked, asked_in, asked_of, reads_of, ends, answers_in, next_told, told_after, patterns_in, Taking, with_taking, takings, last_number, IsTakingLawful}
 use Rattle.machine.specs.Plain.{Kept, kept_text, plain_answer, plain_answers, unnumbered, said, plain_reply, after_call, kept_after, plain_replies, with_call, calls_of, plain_transcript}
 use Rattle.machine.specs.Laws.{PlainIsLawful}
-use Rattle.machine.proofs.StepLemmas.{step_counts, step_numbers}
-use Rattle.machine.proofs.History.{history, entry_of, number_in, length-history, once_each, rising, beyond, state_after-history, calls_agree, after_counts, Follows, follows, IsVersion, version_at_start, next_version}
+use Rattle.machine.proofs.History.{history, entry_of, length-history, once_each, rising, beyond, history_finds, state_after-finds, calls_agree-finds, after_counts, stands_at_start, stands_on}
+use Rattle.machine.proofs.History.{Stands as StandsIn}
 use Rattle.machine.proofs.Forms.{number_of_reply, reply_form}
 use Rattle.machine.specs.Bare.{bare, is_plain, bare_after, bare_replies}
 use Rattle.machine.proofs.Bare.{replies_are_bare, after_is_bare}
@@ -99,27 +100,9 @@ all_through version k t told s kept (c ∷ cs) text =
     all-append (IsAsked t) (asked_in told (reads_of k c) (answers_in (plain_reply version s kept told c))) _ (reads_lawful version k t s kept told c text)
     (rest_by (IsAsked t) (ends k c) _ (λ apart. all_through version k t (drop (patterns_in c) told) (after_call s (call_of c)) (kept_after s c kept) cs (text_stays k s kept c apart ∙ text)))
 
--- where a run stands behind its first k calls
-record Stands (version : ℕ) (opening : List ℕ) (all : List Call) (k : ℕ) (s : State) (left : List Call) : Type 0 where
-  here : s ≡ after (opened opening) (take k all)
-  rest : drop k all ≡ left
-  within : k ≤ length all
-  count : s.count ≡ k
-  shows : IsVersion (opened opening) (history version (opened opening) all) k s
-
--- behind one call more
-stands_on : (version : ℕ) (opening : List ℕ) (all : List Call) (k : ℕ) (s : State) (c : Call) (left : List Call) → Stands version opening all k s (c ∷ left) → Stands version opening all (suc k) (step s c).0 left
-stands_on version opening all k s c left at =
-    let f : Follows (opened opening) all k c left = follows (opened opening) all k c left at.rest in
-    let there : (step s c).0 ≡ after (opened opening) (take (suc k) all) = ap (λ x. (step x c).0) at.here ∙ sym f.state in
-    let reached : state_after (opened opening) (history version (opened opening) all) (suc k) ≡ (step s c).0 = state_after-history version opening all (suc k) f.within ∙ sym there in
-    record {
-      here = there;
-      rest = f.rest;
-      within = f.within;
-      count = step_counts s c ∙ ap suc at.count;
-      shows = next_version (opened opening) _ k s (step s c).0 at.shows at.count (omega (arith, f.within, length-history version (opened opening) all)) reached (step_numbers s c);
-    }
+-- where a run stands among its own calls
+abbrev Stands : ℕ → List ℕ → List Call → ℕ → State → List Call → Type 0
+Stands version opening all k s left = StandsIn opening (history version (opened opening) all) all k s left
 
 -- behind one command more, with the numbers before it
 record OnTo (version : ℕ) (opening : List ℕ) (all : List Call) (s : State) (left : List Call) (earlier : List ℕ) : Type 0 where
@@ -137,7 +120,7 @@ on_by : (version : ℕ) (opening : List ℕ) (all : List Call) (k : ℕ) (s : St
 on_by version opening all k s other None left earlier none at last = record { k = k; stands = at; last = rw (none, append-nil earlier) last }
 on_by version opening all k s other (Some c) left earlier none at last = record {
   k = suc k;
-  stands = stands_on version opening all k s c left at;
+  stands = stands_on version opening (history version (opened opening) all) all k s c left (history_finds version opening all) (length-history version (opened opening) all) at;
   last = rw (number_of_reply version (s.count + 1) (step s c).1) (omega (arith, last-append earlier (s.count + 1), at.count));
 }
 
@@ -169,7 +152,7 @@ takings_lawful version opening all told i k earlier s kept (c ∷ cs) at last =
     taking_then version opening all told i k earlier s kept cs c _ at last
     (takings_lawful version opening all (drop (patterns_in c) told) (i + 1) on.k (earlier ++ with_number (number_of (plain_reply version s kept told c)) []) (after_call s (call_of c)) (kept_after s c kept) cs on.stands on.last)
 
-take-all : (cs : List Call) → take (length cs) cs ≡ cs
+pub take-all : (cs : List Call) → take (length cs) cs ≡ cs
 take-all [] = refl
 take-all (c ∷ cs) = ap (λ xs. c ∷ xs) (take-all cs)
 
@@ -199,7 +182,7 @@ end_of : (version : ℕ) (told : List (Option Matches)) (opening : List ℕ) (co
 unfolding run
 end_of version told opening commands = record {
   count = sym (length-history version (opened opening) (calls_of commands));
-  text = rw (length-history version (opened opening) (calls_of commands), state_after-history version opening (calls_of commands) (length (calls_of commands)) (omega arith), take-all (calls_of commands)) refl;
+  text = rw (length-history version (opened opening) (calls_of commands), state_after-finds version opening (calls_of commands) _ (history_finds version opening (calls_of commands)) (length (calls_of commands)) (omega arith), take-all (calls_of commands)) refl;
 }
 
 snapshots_of : (version : ℕ) (told : List (Option Matches)) (opening : List ℕ) (commands : List Command) → SnapshotsAgree told (opened opening) (run version opening commands) (commands ∷ []) (session version told opening commands ∷ [])
@@ -207,7 +190,7 @@ unfolding session run
 snapshots_of version told opening commands =
     all-append _ (map (λ t. (1, t)) (takings told 1 [] commands (session version told opening commands))) [] (all-map _ (λ t. (1, t)) (takings told 1 [] commands (session version told opening commands))
     (takings_lawful version opening (calls_of commands) told 1 0 [] (opened opening) [] commands
-    (record { here = refl; rest = refl; within = omega arith; count = refl; shows = version_at_start opening _ }) (omega arith))) tt
+    (stands_at_start opening _ (calls_of commands)) (omega arith))) tt
 
 -- what a plain string answers to one session is lawful
 pub plain_is_lawful : PlainIsLawful
@@ -216,7 +199,7 @@ plain_is_lawful script opening told commands one =
     let same = entries-run script.version told opening commands in
     record {
       form = form_of script told opening commands one;
-      call = rw (one, same) (calls_agree script.version opening (calls_of commands));
+      call = rw (one, same) (calls_agree-finds script.version opening (calls_of commands) _ (history_finds script.version opening (calls_of commands)) (length-history script.version (opened opening) (calls_of commands)));
       snapshot = rw (one, same) (snapshots_of script.version told opening commands);
       end = rw (one, same) (end_of script.version told opening commands);
     }

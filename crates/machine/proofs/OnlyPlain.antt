@@ -18,21 +18,22 @@ use Rattle.machine.specs.declared.reply.Reply.TheVariants as reply
 use Rattle.machine.specs.declared.reply.Transcript.{Transcript}
 use Rattle.machine.specs.Machine.{State, opened, Call, step, after}
 use Rattle.machine.specs.Answers.{call_of, reply_of, number_of, Matches, read_answer}
+use Rattle.machine.specs.Histories.{number_in}
 use Rattle.machine.specs.Lawful.{answers_have_forms, has_form, have_forms, sessions_have_forms, Entry, with_entry, session_entries, entries, with_number, numbers, has_number, numbered, state_after, after_entry, IsReplyAt, CallsAgree, IsChange, AnswersAs, IsAsked, asked_in, asked_of, reads_of, ends, Asked, next_told, told_after, answers_in, is_pattern, patterns_in, patterns_of, Taking, with_taking, takings, last_number, IsTakingLawful, SnapshotsAgree, IsLawful}
 use Rattle.machine.specs.Plain.{Kept, kept_text, plain_answer, plain_answers, unnumbered, said, after_call, kept_after, plain_replies, calls_of, plain_transcript, live_after, is_live, are_live}
 use Rattle.machine.specs.Laws.{AreTold, OnlyPlainIsLawful}
 use Rattle.machine.proofs.StepLemmas.{step_counts, step_numbers}
-use Rattle.machine.proofs.History.{number_in, IsVersion, version_at_start, next_version}
+use Rattle.machine.proofs.History.{IsVersion, version_at_start, next_version}
 use Rattle.machine.proofs.OneSession.{all-append, last-append, plain_is_lawful}
 use Rattle.machine.proofs.InOrder.{count_of, placed, Each, in_order}
 use Rattle.machine.proofs.Sides.{IsAnswered, answered_is, nothing_is, Sides, sides, numbers-entries}
 
 -- lists of facts
-all-left : {X : Type 0} (P : X → Type 0) (xs ys : List X) → AllByRecursion P (xs ++ ys) → AllByRecursion P xs
+pub all-left : {X : Type 0} (P : X → Type 0) (xs ys : List X) → AllByRecursion P (xs ++ ys) → AllByRecursion P xs
 all-left P [] ys p = tt
 all-left P (x ∷ xs) ys p = (p.0, all-left P xs ys p.1)
 
-all-right : {X : Type 0} (P : X → Type 0) (xs ys : List X) → AllByRecursion P (xs ++ ys) → AllByRecursion P ys
+pub all-right : {X : Type 0} (P : X → Type 0) (xs ys : List X) → AllByRecursion P (xs ++ ys) → AllByRecursion P ys
 all-right P [] ys p = p
 all-right P (x ∷ xs) ys p = all-right P xs ys p.1
 
@@ -334,7 +335,7 @@ transcript count text sessions version = record { end = record { count = count; 
 same_transcript : (a a' : ℕ) (b b' : List ℕ) (c c' : List (List Reply)) (d d' : ℕ) → a ≡ a' → b ≡ b' → c ≡ c' → d ≡ d' → transcript a b c d ≡ transcript a' b' c' d'
 same_transcript a a' b b' c c' d d' count text sessions version = rw (count, text, sessions, version) refl
 
-unmapped : {X Y : Type 0} (P : Y → Type 0) (f : X → Y) (xs : List X) → AllByRecursion P (map f xs) → AllByRecursion (λ x. P (f x)) xs
+pub unmapped : {X Y : Type 0} (P : Y → Type 0) (f : X → Y) (xs : List X) → AllByRecursion P (map f xs) → AllByRecursion (λ x. P (f x)) xs
 unmapped P f [] p = tt
 unmapped P f (x ∷ xs) p = (p.0, unmapped P f xs p.1)
 

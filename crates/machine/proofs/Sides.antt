@@ -10,8 +10,8 @@ use Rattle.machine.specs.declared.reply.Reply.{Reply}
 use Rattle.machine.specs.declared.reply.Reply.TheVariants as reply
 use Rattle.machine.specs.Machine.{Call}
 use Rattle.machine.specs.Answers.{call_of, number_of}
+use Rattle.machine.specs.Histories.{number_in}
 use Rattle.machine.specs.Lawful.{is_taken, is_nothing, is_answer_to, answers_have_forms, has_form, have_forms, Entry, with_entry, session_entries, with_number, numbers}
-use Rattle.machine.proofs.History.{number_in}
 
 -- the form of the commands that aren't numbered
 pub record IsTaken (r : Reply) : Type 0 where

@@ -7,6 +7,7 @@ use Rattle.machine.specs.declared.reply.Transcript.{Transcript}
 use Rattle.machine.specs.Machine.{State, Call, step}
 use Rattle.machine.specs.Answers.{Matches}
 use Rattle.machine.specs.Lawful.{patterns_of, IsLawful}
+use Rattle.machine.specs.Histories.{Event, IsWritten}
 use Rattle.machine.specs.Plain.{plain_transcript, are_live}
 
 -- a call raises the count by one; it leaves the text and the version, or its number becomes the version
@@ -31,3 +32,7 @@ pub record AreTold (commands : List Command) (told : List (Option Matches)) : Ty
 abbrev pub OnlyPlainIsLawful : Type 0
 OnlyPlainIsLawful = (script : Script) (opening : List ℕ) (told : List (Option Matches)) (commands : List Command) (t : Transcript) → script.sessions ≡ commands ∷ []
     → AreTold commands told → are_live [] commands ≡ true → IsLawful script opening told t → t ≡ plain_transcript script.version told opening commands
+
+-- a transcript that writes a legal history of many callers down is lawful
+abbrev pub HistoryIsLawful : Type 0
+HistoryIsLawful = (script : Script) (opening : List ℕ) (hands : ℕ) (told : List (Option Matches)) (history : List Event) (t : Transcript) → IsWritten script opening hands told history t → IsLawful script opening told t

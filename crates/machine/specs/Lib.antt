@@ -5,3 +5,4 @@ pub mod Lawful
 pub mod Plain
 pub mod Laws
 pub mod Bare
+pub mod Histories

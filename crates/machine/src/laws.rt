@@ -1,6 +1,6 @@
 //! Laws of the plain machine and of lawful transcripts, each the contract of a function that does nothing.
 
-ghost use Rattle.machine.specs.Laws.{StepNumbers, PlainIsLawful, OnlyPlainIsLawful};
+ghost use Rattle.machine.specs.Laws.{StepNumbers, PlainIsLawful, OnlyPlainIsLawful, HistoryIsLawful};
 
 /// Each call raises the count by one; it leaves the text and the version, or its number becomes the version.
 pub fn calls_are_numbered()
@@ -16,4 +16,10 @@ pub fn plain_transcript_is_lawful()
 /// pattern are told.
 pub fn only_plain_transcript_is_lawful()
     ensures { OnlyPlainIsLawful }
+{}
+
+/// A transcript of many sessions that writes a legal history down is lawful: each session's numbered calls are its
+/// own of the history, and each take shows the text at a moment of the history.
+pub fn written_history_is_lawful()
+    ensures { HistoryIsLawful }
 {}

@@ -3,7 +3,8 @@
 //!
 //! The code here is the data types alone, with the laws. The meaning stands in `specs/`: the machine's state
 //! and calls (`Machine`), what they answer and what a command and a read ask (`Answers`), lawful transcripts
-//! (`Lawful`), what a plain string answers to one session (`Plain`) and the laws (`Laws`).
+//! (`Lawful`), what a plain string answers to one session (`Plain`), histories of many callers (`Histories`) and the
+//! laws (`Laws`).
 #![tactic(auto)]
 
 mod command;
