@@ -20,6 +20,7 @@ fn units_of(text: &str) -> usize
     units
 }
 
+// Whether the command shows a text.
 fn is_reading(command: &Command) -> bool
     ensures { result ≡ is_reading command.now }
 {
@@ -29,6 +30,7 @@ fn is_reading(command: &Command) -> bool
     }
 }
 
+// Whether a session has few enough commands, and few enough that show a text.
 fn is_bounded(commands: &[Command]) -> bool
     ensures { result ≡ is_bounded commands.now }
 {
@@ -39,6 +41,7 @@ fn is_bounded(commands: &[Command]) -> bool
     commands.len() <= MAX_COMMANDS && reading <= MAX_READINGS
 }
 
+// Whether the script opens with a text that isn't too long.
 fn is_opening_within(opening: &Opening) -> bool
     ensures { result ≡ is_opening_within (opening_text opening.now) }
 {
@@ -48,6 +51,7 @@ fn is_opening_within(opening: &Opening) -> bool
     }
 }
 
+// Whether each session has.
 fn are_bounded(sessions: &[Sequence<Command>]) -> bool
     ensures { result ≡ list_all is_bounded sessions.now }
 {
@@ -59,6 +63,7 @@ fn are_bounded(sessions: &[Sequence<Command>]) -> bool
     true
 }
 
+// Whether the script is within its limits.
 pub(crate) fn is_within(script: &Script) -> bool
     ensures { result ≡ is_within script.now }
 {

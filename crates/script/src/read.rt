@@ -14,6 +14,7 @@ use machine::{Command, Opening, Script, Sequence, Text};
 use serde_json::Value;
 use std::alloc::Global;
 
+// An edit, from the members beside its word.
 #[tactic(auto, unfolding(crate::specs::ScriptDocument::edit_of))]
 fn edit_of(alloc: Global, value: &Value) -> Result<Command, Misfit>
     ensures { Gives (λ c. c) result (edit_of (view value.now)) }
@@ -24,6 +25,7 @@ fn edit_of(alloc: Global, value: &Value) -> Result<Command, Misfit>
     Ok(Command::Edit { range, text })
 }
 
+// A look at the text, from the members beside its word.
 #[tactic(auto, unfolding(crate::specs::ScriptDocument::look_of))]
 fn look_of(value: &Value) -> Result<Command, Misfit>
     ensures { Gives (λ c. c) result (look_of (view value.now)) }
@@ -33,6 +35,7 @@ fn look_of(value: &Value) -> Result<Command, Misfit>
     Ok(Command::Text { range, limit })
 }
 
+// A command: each that is built has three members.
 #[tactic(auto, unfolding(crate::specs::ScriptDocument::command_of))]
 fn command_of(alloc: Global, value: &Value) -> Result<Command, Misfit>
     ensures { Gives (λ c. c) result (command_of (view value.now)) }
@@ -50,6 +53,7 @@ fn command_of(alloc: Global, value: &Value) -> Result<Command, Misfit>
     Err(Misfit::Shape)
 }
 
+// The commands of a session, one after another.
 fn commands_of(alloc: Global, items: &[Value]) -> Result<Vec<Command>, Misfit>
     ensures { Gives (λ cs. cs.items) result (commands_of (items_view items.now)) }
 {
@@ -61,6 +65,7 @@ fn commands_of(alloc: Global, items: &[Value]) -> Result<Vec<Command>, Misfit>
     Ok(commands)
 }
 
+// A session: a list of commands.
 #[tactic(auto, unfolding(crate::specs::ScriptDocument::session_of))]
 fn session_of(alloc: Global, value: &Value) -> Result<Sequence<Command>, Misfit>
     ensures { Gives (λ s. s) result (session_of (view value.now)) }
@@ -70,6 +75,7 @@ fn session_of(alloc: Global, value: &Value) -> Result<Sequence<Command>, Misfit>
     Ok(Sequence::new(commands))
 }
 
+// The sessions: one, by now.
 #[tactic(auto, unfolding(crate::specs::ScriptDocument::sessions_of))]
 fn sessions_of(alloc: Global, value: &Value) -> Result<Sequence<Sequence<Command>>, Misfit>
     ensures { Gives (λ s. s) result (sessions_of (view value.now)) }
@@ -83,6 +89,7 @@ fn sessions_of(alloc: Global, value: &Value) -> Result<Sequence<Sequence<Command
     Ok(Sequence::new(sessions))
 }
 
+// What a script opens: a text, by now.
 #[tactic(auto, unfolding(crate::specs::ScriptDocument::opening_of))]
 fn opening_of(alloc: Global, value: &Value) -> Result<Opening, Misfit>
     ensures { Gives (λ o. o) result (opening_of (view value.now)) }
@@ -95,6 +102,7 @@ fn opening_of(alloc: Global, value: &Value) -> Result<Opening, Misfit>
     Ok(Opening::Text { text })
 }
 
+// The version is the number 1.
 fn is_version_one(value: &Value) -> bool
     ensures { result ≡ is_version_one (view value.now) }
 {
@@ -104,6 +112,7 @@ fn is_version_one(value: &Value) -> bool
     }
 }
 
+// A script, whatever it has too much of.
 #[tactic(auto, unfolding(crate::specs::ScriptDocument::reading))]
 fn reading(alloc: Global, value: &Value) -> Result<Script, Misfit>
     ensures { Gives (λ s. s) result (reading (view value.now)) }
@@ -120,6 +129,7 @@ fn reading(alloc: Global, value: &Value) -> Result<Script, Misfit>
     })
 }
 
+// A script within its limits.
 fn reading_within(alloc: Global, value: &Value) -> Result<Script, Misfit>
     ensures { Gives (λ s. s) result (reading_within (view value.now)) }
 {
@@ -131,6 +141,7 @@ fn reading_within(alloc: Global, value: &Value) -> Result<Script, Misfit>
     }
 }
 
+// A refusal at the document itself.
 fn refused(why: ScriptRule) -> ScriptRefusal
     ensures { result ≡ ScriptRefusal.Refused 0 0 why }
 {

@@ -11,6 +11,7 @@ use points::{MarkOrder, Point};
 use serde_json::{Value, json};
 use std::alloc::{AllocError, Global};
 
+// The word of a refusal.
 fn refusal_word(refusal: CallRefusal) -> &'static str
     ensures { result.now ≡ refusal_word refusal }
 {
@@ -26,6 +27,7 @@ fn refusal_word(refusal: CallRefusal) -> &'static str
     }
 }
 
+// The word of how one mark stands to another.
 fn order_word(order: MarkOrder) -> &'static str
     ensures { result.now ≡ order_word order }
 {
@@ -50,6 +52,7 @@ impl HasValue for ReplyPart {
 
 // ---- the answers to reads
 
+// The extent of a text, and its units.
 fn size_value(alloc: Global, extent: &Point, units: u64) -> Result<Value, AllocError>
     ensures { IfOk result (λ v. view v ≡ answer_value (answer.Size extent.now units)) }
 {
@@ -57,12 +60,14 @@ fn size_value(alloc: Global, extent: &Point, units: u64) -> Result<Value, AllocE
     json!(in alloc; {"extent": extent, "units": units})
 }
 
+// A text shown, and the units of the whole range.
 fn shown_value(alloc: Global, text: &str, units: u64) -> Result<Value, AllocError>
     ensures { IfOk result (λ v. view v ≡ answer_value (answer.Text text.now units)) }
 {
     json!(in alloc; {"text": text, "units": units})
 }
 
+// How many hits there are, and the first of them.
 fn found_value(alloc: Global, count: u64, hits: &[Span]) -> Result<Value, AllocError>
     ensures { IfOk result (λ v. view v ≡ answer_value (answer.Found count hits.now)) }
 {
@@ -70,6 +75,7 @@ fn found_value(alloc: Global, count: u64, hits: &[Span]) -> Result<Value, AllocE
     json!(in alloc; {"count": count, "hits": hits})
 }
 
+// How many bytes were written.
 fn saved_value(alloc: Global, bytes: u64) -> Result<Value, AllocError>
     ensures { IfOk result (λ v. view v ≡ answer_value (answer.Saved bytes)) }
 {
@@ -91,6 +97,7 @@ impl HasValue for ReadAnswer {
 
 // ---- the replies
 
+// An edit.
 fn edited_value(
     alloc: Global,
     at: u64,
@@ -108,6 +115,7 @@ fn edited_value(
     json!(in alloc; {"at": at, "end": end, "from": from, "hits": hits, "to": to})
 }
 
+// Several edits under one number.
 fn batched_value(alloc: Global, at: u64, edits: &[ReplyPart]) -> Result<Value, AllocError>
     ensures { IfOk result (λ v. view v ≡ reply_value (reply.Batched at edits.now)) }
 {
@@ -115,18 +123,21 @@ fn batched_value(alloc: Global, at: u64, edits: &[ReplyPart]) -> Result<Value, A
     json!(in alloc; {"at": at, "edits": edits})
 }
 
+// A text shown by a command.
 fn text_value(alloc: Global, at: u64, text: &str, units: u64) -> Result<Value, AllocError>
     ensures { IfOk result (λ v. view v ≡ reply_value (reply.Text at text.now units)) }
 {
     json!(in alloc; {"at": at, "text": text, "units": units})
 }
 
+// A call that tells no more than its number.
 fn numbered_value(alloc: Global, at: u64) -> Result<Value, AllocError>
     ensures { IfOk result (λ v. view v ≡ reply_value (reply.Numbered at)) }
 {
     json!(in alloc; {"at": at})
 }
 
+// Where a mark is.
 fn range_value(alloc: Global, at: u64, exclusive: bool, range: &Span) -> Result<Value, AllocError>
     ensures { IfOk result (λ v. view v ≡ reply_value (reply.Range at exclusive range.now)) }
 {
@@ -134,6 +145,7 @@ fn range_value(alloc: Global, at: u64, exclusive: bool, range: &Span) -> Result<
     json!(in alloc; {"at": at, "exclusive": exclusive, "range": range})
 }
 
+// The ids of marks.
 fn marks_value(alloc: Global, at: u64, ids: &[u32]) -> Result<Value, AllocError>
     ensures { IfOk result (λ v. view v ≡ reply_value (reply.Marks at ids.now)) }
 {
@@ -141,30 +153,35 @@ fn marks_value(alloc: Global, at: u64, ids: &[u32]) -> Result<Value, AllocError>
     json!(in alloc; {"at": at, "ids": ids})
 }
 
+// How two marks stand to each other.
 fn order_value(alloc: Global, at: u64, order: MarkOrder) -> Result<Value, AllocError>
     ensures { IfOk result (λ v. view v ≡ reply_value (reply.Order at order)) }
 {
     json!(in alloc; {"at": at, "order": order_word(order)})
 }
 
+// How many changes a watcher was told.
 fn heard_value(alloc: Global, at: u64, heard: u64) -> Result<Value, AllocError>
     ensures { IfOk result (λ v. view v ≡ reply_value (reply.Heard at heard)) }
 {
     json!(in alloc; {"at": at, "heard": heard})
 }
 
+// A refused call.
 fn refused_value(alloc: Global, at: u64, no: CallRefusal) -> Result<Value, AllocError>
     ensures { IfOk result (λ v. view v ≡ reply_value (reply.Refused at no)) }
 {
     json!(in alloc; {"at": at, "no": refusal_word(no)})
 }
 
+// The version that a snapshot was taken of.
 fn taken_value(alloc: Global, version: u64) -> Result<Value, AllocError>
     ensures { IfOk result (λ v. view v ≡ reply_value (reply.Taken version)) }
 {
     json!(in alloc; {"version": version})
 }
 
+// The answers to the reads of a snapshot.
 fn answered_value(alloc: Global, answers: &[ReadAnswer]) -> Result<Value, AllocError>
     ensures { IfOk result (λ v. view v ≡ reply_value (reply.Answered answers.now)) }
 {

@@ -18,6 +18,7 @@ pub(crate) trait HasValue {
         ensures { IfOk result (λ v. view v ≡ json self.now) };
 }
 
+// The values of the members, in order.
 fn list_items<T: HasValue>(alloc: Global, members: &[T]) -> Result<Vec<Value>, AllocError>
     ensures { IfOk result (λ vs. items_view vs.items ≡ items_of (map T.HasValue.json members.now)) }
 {

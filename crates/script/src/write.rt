@@ -10,12 +10,14 @@ use points::NoMemory;
 use serde_json::{Value, json};
 use std::alloc::{AllocError, Global};
 
+// The end of a run.
 fn end_value(alloc: Global, end: &TranscriptEnd) -> Result<Value, AllocError>
     ensures { IfOk result (λ v. view v ≡ end_value end.now) }
 {
     json!(in alloc; {"count": end.count, "text": end.text.as_str()})
 }
 
+// The whole transcript.
 fn transcript_value(alloc: Global, transcript: &Transcript) -> Result<Value, AllocError>
     ensures { IfOk result (λ v. view v ≡ transcript_value transcript.now) }
 {
