@@ -17,6 +17,8 @@ mod patch_tests;
 #[cfg(test)]
 mod points_tests;
 #[cfg(test)]
+mod script_tests;
+#[cfg(test)]
 mod splay_tests;
 #[cfg(test)]
 mod splice_runs_tests;

@@ -2,7 +2,7 @@
 ghost use Rattle.std.specs.Prelude.{◌≡◌, ◌<◌};
 ghost use Rattle.serde_json.specs.Find.{get};
 ghost use Rattle.serde_json.specs.View.{view};
-ghost use Rattle.script.specs.ScriptDocument.{member_count, item_count, string_in, whole_of, whole_in, coordinate, point_from, range_between, range_of, range_in, max_coord};
+ghost use Rattle.script.specs.Parts.{member_count, item_count, string_in, whole_of, whole_in, coordinate, point_from, range_between, range_of, range_in};
 ghost use Rattle.script.specs.Reading.{Gives};
 ghost use Rattle.script.specs.declared.parts.Misfit.TheVariants.{NoMemory};
 
@@ -54,12 +54,14 @@ pub(crate) fn item_count(value: &Value) -> usize
     }
 }
 
+// The value of a member.
 pub(crate) fn member<'v>(value: &'v Value, key: &str) -> Result<&'v Value, Misfit>
     ensures { Gives (λ v. view v.now) result (get key.now (view value.now)) }
 {
     value.get(key).ok_or(Misfit::Shape)
 }
 
+// The string that a member is.
 pub(crate) fn string_in<'v>(value: &'v Value, key: &str) -> Result<&'v str, Misfit>
     ensures { Gives (λ s. s.now) result (string_in key.now (view value.now)) }
 {
@@ -76,18 +78,21 @@ fn whole_of(limit: u32, value: &Value) -> Result<u32, Misfit>
     }
 }
 
+// The whole number that a member is, where that is at most `limit`.
 pub(crate) fn whole_in(limit: u32, value: &Value, key: &str) -> Result<u32, Misfit>
     ensures { Gives (λ n. n) result (whole_in limit key.now (view value.now)) }
 {
     whole_of(limit, member(value, key)?)
 }
 
+// The row or column at this place of a range.
 fn coordinate(value: &Value, index: usize) -> Result<u32, Misfit>
     ensures { Gives (λ n. n) result (coordinate (view value.now) index) }
 {
     whole_of(MAX_COORD, value.get(index).ok_or(Misfit::Shape)?)
 }
 
+// The point that begins at this place of a range.
 fn point_from(value: &Value, index: usize) -> Result<Point, Misfit>
     requires { index < 4 }
     ensures { Gives (λ p. p) result (point_from (view value.now) index) }
@@ -97,6 +102,7 @@ fn point_from(value: &Value, index: usize) -> Result<Point, Misfit>
     Ok(Point { row, column })
 }
 
+// The range between two points, where they are in order.
 fn range_between(start: Point, end: Point) -> Result<Range, Misfit>
     ensures { Gives (λ r. r) result (range_between start end) }
 {
@@ -108,7 +114,7 @@ fn range_between(start: Point, end: Point) -> Result<Range, Misfit>
 }
 
 // A range: a list of four whole numbers.
-#[tactic(auto, unfolding(crate::specs::ScriptDocument::range_of))]
+#[tactic(auto, unfolding(crate::specs::Parts::range_of))]
 fn range_of(value: &Value) -> Result<Range, Misfit>
     ensures { Gives (λ r. r) result (range_of (view value.now)) }
 {
@@ -120,6 +126,7 @@ fn range_of(value: &Value) -> Result<Range, Misfit>
     range_between(start, end)
 }
 
+// The range that the member `range` is.
 pub(crate) fn range_in(value: &Value) -> Result<Range, Misfit>
     ensures { Gives (λ r. r) result (range_in (view value.now)) }
 {

@@ -1,20 +1,20 @@
 //! From bytes to a script.
 ghost use Rattle.std.specs.Prelude.{◌≡◌, Some, IfOk, IfErr};
 ghost use Rattle.serde_json.specs.View.{view, items_view};
-ghost use Rattle.script.specs.ScriptDocument.{edit_of, look_of, command_of, commands_of, session_of, sessions_of, opened_by, opening_of, is_version_one, script_of, document, script_in, script_place, IsRefusalAt};
+ghost use Rattle.script.specs.ScriptDocument.{edit_of, look_of, command_of, commands_of, session_of, sessions_of, opening_of, reading, reading_within, document, script_in, script_place, IsRefusalAt};
+ghost use Rattle.script.specs.Rules.{is_version_one};
 ghost use Rattle.script.specs.Reading.{Gives};
-ghost use Rattle.script.specs.Limits.{IsWithinLimits};
+ghost use Rattle.script.specs.Limits.{is_within, IsWithinLimits};
 
-use crate::command::{Command, Opening, Script};
-use crate::count::{is_bounded, units_of};
-use crate::limits::{MAX_SHOWN, MAX_UNITS};
+use crate::count::is_within;
+use crate::limits::MAX_SHOWN;
 use crate::parts::{Misfit, item_count, member, member_count, range_in, string_in, whole_in};
 use crate::refusal::{ScriptRefusal, ScriptRule};
-use crate::sequence::Sequence;
-use crate::text::Text;
+use machine::{Command, Opening, Script, Sequence, Text};
 use serde_json::Value;
 use std::alloc::Global;
 
+// An edit, from the members beside its word.
 #[tactic(auto, unfolding(crate::specs::ScriptDocument::edit_of))]
 fn edit_of(alloc: Global, value: &Value) -> Result<Command, Misfit>
     ensures { Gives (λ c. c) result (edit_of (view value.now)) }
@@ -25,6 +25,7 @@ fn edit_of(alloc: Global, value: &Value) -> Result<Command, Misfit>
     Ok(Command::Edit { range, text })
 }
 
+// A look at the text, from the members beside its word.
 #[tactic(auto, unfolding(crate::specs::ScriptDocument::look_of))]
 fn look_of(value: &Value) -> Result<Command, Misfit>
     ensures { Gives (λ c. c) result (look_of (view value.now)) }
@@ -34,6 +35,7 @@ fn look_of(value: &Value) -> Result<Command, Misfit>
     Ok(Command::Text { range, limit })
 }
 
+// A command: each that is built has three members.
 #[tactic(auto, unfolding(crate::specs::ScriptDocument::command_of))]
 fn command_of(alloc: Global, value: &Value) -> Result<Command, Misfit>
     ensures { Gives (λ c. c) result (command_of (view value.now)) }
@@ -51,6 +53,7 @@ fn command_of(alloc: Global, value: &Value) -> Result<Command, Misfit>
     Err(Misfit::Shape)
 }
 
+// The commands of a session, one after another.
 fn commands_of(alloc: Global, items: &[Value]) -> Result<Vec<Command>, Misfit>
     ensures { Gives (λ cs. cs.items) result (commands_of (items_view items.now)) }
 {
@@ -62,18 +65,17 @@ fn commands_of(alloc: Global, items: &[Value]) -> Result<Vec<Command>, Misfit>
     Ok(commands)
 }
 
+// A session: a list of commands.
 #[tactic(auto, unfolding(crate::specs::ScriptDocument::session_of))]
 fn session_of(alloc: Global, value: &Value) -> Result<Sequence<Command>, Misfit>
     ensures { Gives (λ s. s) result (session_of (view value.now)) }
 {
     let items = value.as_array().ok_or(Misfit::Shape)?;
     let commands = commands_of(alloc, items.as_slice())?;
-    if !is_bounded(commands.as_slice()) {
-        return Err(Misfit::Shape);
-    }
     Ok(Sequence::new(commands))
 }
 
+// The sessions: one, by now.
 #[tactic(auto, unfolding(crate::specs::ScriptDocument::sessions_of))]
 fn sessions_of(alloc: Global, value: &Value) -> Result<Sequence<Sequence<Command>>, Misfit>
     ensures { Gives (λ s. s) result (sessions_of (view value.now)) }
@@ -87,6 +89,7 @@ fn sessions_of(alloc: Global, value: &Value) -> Result<Sequence<Sequence<Command
     Ok(Sequence::new(sessions))
 }
 
+// What a script opens: a text, by now.
 #[tactic(auto, unfolding(crate::specs::ScriptDocument::opening_of))]
 fn opening_of(alloc: Global, value: &Value) -> Result<Opening, Misfit>
     ensures { Gives (λ o. o) result (opening_of (view value.now)) }
@@ -95,13 +98,11 @@ fn opening_of(alloc: Global, value: &Value) -> Result<Opening, Misfit>
         return Err(Misfit::Shape);
     }
     let text = string_in(value, "text")?;
-    if units_of(text) > MAX_UNITS {
-        return Err(Misfit::Shape);
-    }
     let text = Text::from_str(alloc, text)?;
     Ok(Opening::Text { text })
 }
 
+// The version is the number 1.
 fn is_version_one(value: &Value) -> bool
     ensures { result ≡ is_version_one (view value.now) }
 {
@@ -111,9 +112,10 @@ fn is_version_one(value: &Value) -> bool
     }
 }
 
-#[tactic(auto, unfolding(crate::specs::ScriptDocument::script_of))]
-fn script_of(alloc: Global, value: &Value) -> Result<Script, Misfit>
-    ensures { Gives (λ s. s) result (script_of (view value.now)) }
+// A script, whatever it has too much of.
+#[tactic(auto, unfolding(crate::specs::ScriptDocument::reading))]
+fn reading(alloc: Global, value: &Value) -> Result<Script, Misfit>
+    ensures { Gives (λ s. s) result (reading (view value.now)) }
 {
     if member_count(value) != 3 || !is_version_one(value) {
         return Err(Misfit::Shape);
@@ -127,6 +129,19 @@ fn script_of(alloc: Global, value: &Value) -> Result<Script, Misfit>
     })
 }
 
+// A script within its limits.
+fn reading_within(alloc: Global, value: &Value) -> Result<Script, Misfit>
+    ensures { Gives (λ s. s) result (reading_within (view value.now)) }
+{
+    let script = reading(alloc, value)?;
+    if is_within(&script) {
+        Ok(script)
+    } else {
+        Err(Misfit::Shape)
+    }
+}
+
+// A refusal at the document itself.
 fn refused(why: ScriptRule) -> ScriptRefusal
     ensures { result ≡ ScriptRefusal.Refused 0 0 why }
 {
@@ -149,7 +164,7 @@ pub fn read_script(alloc: Global, bytes: &[u8]) -> Result<Script, ScriptRefusal>
         Err(error) if error.is_memory() => return Err(ScriptRefusal::NoMemory),
         Err(_) => return Err(refused(ScriptRule::NotJson)),
     };
-    match script_of(alloc, &value) {
+    match reading_within(alloc, &value) {
         Ok(script) => Ok(script),
         Err(Misfit::Shape) => Err(refused(ScriptRule::BadShape)),
         Err(Misfit::NoMemory) => Err(ScriptRefusal::NoMemory),

@@ -1,0 +1,606 @@
+//! Scripts and transcripts as documents: which bytes are a script, and what a transcript's text is.
+use points::{MarkOrder, NoMemory, Point};
+use script::{
+    CallRefusal, Command, HitNumbers, Opening, ReadAnswer, Reply, ReplyPart, ScriptRefusal,
+    ScriptRule, Sequence, Span, Text, Transcript, TranscriptEnd, read_script, transcript_bytes,
+};
+use std::alloc::{AllocError, Global};
+use std::test::Fail;
+
+// Whether the document breaks the rule of this name, or none where the name is `none`. The place is always that of
+// the document itself.
+fn breaks(alloc: Global, document: &[u8], rule: &str) -> bool {
+    match read_script(alloc, document) {
+        Ok(_) => rule == "none",
+        Err(
+            ScriptRefusal::Refused {
+                session: 0,
+                command: 0,
+                why,
+            },
+        ) => rule == why.name(),
+        Err(_) => false,
+    }
+}
+
+// A row of a table: the name of a rule, a blank and a document.
+fn holds(alloc: Global, row: &str) -> bool {
+    match row.split_once(' ') {
+        Some((rule, document)) => breaks(alloc, document.as_bytes(), rule),
+        None => false,
+    }
+}
+
+// Nothing; a truncated script; a value after the value; a lone surrogate; a pair of surrogates; an unknown key;
+// another key; a missing key; a key twice, the last one right; a key twice, the first one right; version 1.0; version
+// 3; a version that is a string; an opening file; an opening text that is a number; no session; two sessions; a
+// session that is no list; a command that is no object; a string; a list.
+const DOCUMENTS: &str = "\
+NotJson \n\
+NotJson {\"version\":1,\n\
+NotJson {} {}\n\
+NotJson {\"version\":1,\"open\":{\"text\":\"\\ud800\"},\"sessions\":[[]]}\n\
+none {\"version\":1,\"open\":{\"text\":\"\\ud83d\\ude00\"},\"sessions\":[[]]}\n\
+BadShape {\"version\":1,\"open\":{\"text\":\"\"},\"sessions\":[[]],\"more\":0}\n\
+BadShape {\"version\":1,\"open\":{\"text\":\"\"},\"session\":[[]]}\n\
+BadShape {\"version\":1,\"open\":{\"text\":\"\"}}\n\
+none {\"version\":2,\"version\":1,\"open\":{\"text\":\"\"},\"sessions\":[[]]}\n\
+BadShape {\"version\":1,\"version\":2,\"open\":{\"text\":\"\"},\"sessions\":[[]]}\n\
+BadShape {\"version\":1.0,\"open\":{\"text\":\"\"},\"sessions\":[[]]}\n\
+BadShape {\"version\":3,\"open\":{\"text\":\"\"},\"sessions\":[[]]}\n\
+BadShape {\"version\":\"1\",\"open\":{\"text\":\"\"},\"sessions\":[[]]}\n\
+BadShape {\"version\":1,\"open\":{\"file\":\"a\",\"encoding\":\"utf8\"},\"sessions\":[[]]}\n\
+BadShape {\"version\":1,\"open\":{\"text\":0},\"sessions\":[[]]}\n\
+BadShape {\"version\":1,\"open\":{\"text\":\"\"},\"sessions\":[]}\n\
+BadShape {\"version\":1,\"open\":{\"text\":\"\"},\"sessions\":[[],[]]}\n\
+BadShape {\"version\":1,\"open\":{\"text\":\"\"},\"sessions\":[{}]}\n\
+BadShape {\"version\":1,\"open\":{\"text\":\"\"},\"sessions\":[[0]]}\n\
+BadShape \"edit\"\n\
+BadShape []";
+
+#[test]
+fn refuses_odd_documents(rt: HostRuntime) {
+    for row in DOCUMENTS.split('\n') {
+        assert!(rt; holds(rt.alloc(), row), "{row}");
+    }
+}
+
+// Bytes that aren't UTF-8, and a script in another order with blanks around.
+const NOT_UTF8: &[u8] = &[0x7B, 0x22, 0xFF, 0x22, 0x3A, 0x31, 0x7D];
+
+const WITH_BLANKS: &[u8] =
+    b" {\"sessions\" : [ [ ] ], \"open\" : { \"text\" : \"\" }, \"version\" : 1 }\r\n";
+
+#[test]
+fn refuses_bytes_that_are_no_text(rt: HostRuntime) {
+    assert!(rt; breaks(rt.alloc(), NOT_UTF8, "NotJson"));
+}
+
+#[test]
+fn reads_blanks_and_other_orders(rt: HostRuntime) {
+    assert!(rt; breaks(rt.alloc(), WITH_BLANKS, "none"));
+}
+
+// A script of one session with these commands.
+fn with_commands(alloc: Global, commands: &str) -> Result<String, AllocError> {
+    format!(in alloc; "{{\"version\":1,\"open\":{{\"text\":\"\"}},\"sessions\":[[{commands}]]}}")
+}
+
+// Whether a script with these commands breaks the rule.
+fn command_breaks(alloc: Global, commands: &str, rule: &str) -> bool {
+    match with_commands(alloc, commands) {
+        Ok(document) => breaks(alloc, document.as_bytes(), rule),
+        Err(_) => false,
+    }
+}
+
+// A row of a table: the name of a rule, a blank and a command.
+fn command_holds(alloc: Global, row: &str) -> bool {
+    match row.split_once(' ') {
+        Some((rule, command)) => command_breaks(alloc, command, rule),
+        None => false,
+    }
+}
+
+const COMMANDS: &str = "\
+none {\"do\":\"edit\",\"range\":[0,0,0,0],\"text\":\"\"}\n\
+BadShape {\"do\":\"edit\",\"range\":[0,0,0,0],\"text\":0}\n\
+BadShape {\"do\":\"edit\",\"range\":[0,0,0,0]}\n\
+BadShape {\"do\":\"edit\",\"range\":[0,0,0,0],\"limit\":0}\n\
+BadShape {\"do\":\"edit\",\"range\":[0,0,0,0],\"text\":\"\",\"limit\":0}\n\
+BadShape {\"do\":\"text\",\"range\":[0,0,0,0],\"text\":\"\"}\n\
+BadShape {\"do\":\"undo\",\"range\":[0,0,0,0],\"text\":\"\"}\n\
+BadShape {\"do\":\"Edit\",\"range\":[0,0,0,0],\"text\":\"\"}\n\
+BadShape {\"do\":0,\"range\":[0,0,0,0],\"text\":\"\"}\n\
+none {\"do\":\"text\",\"range\":[0,0,0,0],\"limit\":65536}\n\
+BadShape {\"do\":\"text\",\"range\":[0,0,0,0],\"limit\":65537}\n\
+BadShape {\"do\":\"text\",\"range\":[0,0,0,0],\"limit\":-1}\n\
+BadShape {\"do\":\"text\",\"range\":[0,0,0,0],\"limit\":1.0}\n\
+NotJson {\"do\":\"text\",\"range\":[0,0,0,0],\"limit\":1e400}\n\
+BadShape {\"do\":\"text\",\"range\":[0,0,0,0],\"limit\":0e400}\n\
+BadShape {\"do\":\"text\",\"range\":[0,0,0,0],\"limit\":18446744073709551616}\n\
+none {\"do\":\"text\",\"range\":[0,0,1073741824,1073741824],\"limit\":0}\n\
+BadShape {\"do\":\"text\",\"range\":[0,0,1073741825,0],\"limit\":0}\n\
+BadShape {\"do\":\"text\",\"range\":[0,0,0,1073741825],\"limit\":0}\n\
+BadShape {\"do\":\"text\",\"range\":[0,-0,0,0],\"limit\":0}\n\
+BadShape {\"do\":\"text\",\"range\":[0,0,0],\"limit\":0}\n\
+BadShape {\"do\":\"text\",\"range\":[0,0,0,0,0],\"limit\":0}\n\
+BadShape {\"do\":\"text\",\"range\":[1,0,0,9],\"limit\":0}\n\
+BadShape {\"do\":\"text\",\"range\":[0,2,0,1],\"limit\":0}\n\
+BadShape {\"do\":\"undo\"}\n\
+BadShape {\"do\":\"squash\"}\n\
+BadShape {\"do\":\"take\",\"snapshot\":0}";
+
+#[test]
+fn refuses_odd_commands(rt: HostRuntime) {
+    for row in COMMANDS.split('\n') {
+        assert!(rt; command_holds(rt.alloc(), row), "{row}");
+    }
+}
+
+// Lists in lists, this deep.
+fn nested(alloc: Global, depth: usize) -> Result<Vec<u8>, AllocError> {
+    let mut document = Vec::new(alloc);
+    for _ in 0..depth {
+        document.push(b'[')?;
+    }
+    for _ in 0..depth {
+        document.push(b']')?;
+    }
+    Ok(document)
+}
+
+fn nested_breaks(alloc: Global, depth: usize, rule: &str) -> bool {
+    match nested(alloc, depth) {
+        Ok(document) => breaks(alloc, document.as_slice(), rule),
+        Err(_) => false,
+    }
+}
+
+#[test]
+fn nests_at_most_127_deep(rt: HostRuntime) {
+    assert!(rt; nested_breaks(rt.alloc(), 127, "BadShape"));
+    assert!(rt; nested_breaks(rt.alloc(), 128, "NotJson"));
+}
+
+// This many commands that look at the text.
+fn looks(alloc: Global, count: usize) -> Result<String, AllocError> {
+    let mut commands = String::new(alloc);
+    for i in 0..count {
+        if i != 0 {
+            commands.push_str(",")?;
+        }
+        commands.push_str("{\"do\":\"text\",\"range\":[0,0,0,0],\"limit\":0}")?;
+    }
+    Ok(commands)
+}
+
+fn looks_break(alloc: Global, count: usize, rule: &str) -> bool {
+    match looks(alloc, count) {
+        Ok(commands) => command_breaks(alloc, commands.as_str(), rule),
+        Err(_) => false,
+    }
+}
+
+#[test]
+fn counts_the_texts_that_a_script_asks_for(rt: HostRuntime) {
+    assert!(rt; looks_break(rt.alloc(), 4_096, "none"));
+    assert!(rt; looks_break(rt.alloc(), 4_097, "BadShape"));
+}
+
+// An edit that inserts `hi` into an empty text, and a look at it.
+const HELLO: &[u8] =
+    b"{\"version\":1,\"open\":{\"text\":\"\"},\"sessions\":[[{\"do\":\"edit\",\"range\":[0,0,0,0],\"text\":\"hi\"},{\"do\":\"text\",\"range\":[0,0,9,9],\"limit\":100}]]}";
+
+fn point(row: u32, column: u32) -> Point {
+    Point { row, column }
+}
+
+fn opens_with(opening: &Opening, expected: &str) -> bool {
+    match opening {
+        Opening::Text { text } => text.as_str() == expected,
+        Opening::File { .. } => false,
+    }
+}
+
+fn is_edit(command: &Command, start: Point, end: Point, expected: &str) -> bool {
+    match command {
+        Command::Edit { range, text } => range.start == start
+            && range.end == end
+            && text.as_str() == expected,
+        _ => false,
+    }
+}
+
+fn is_look(command: &Command, start: Point, end: Point, expected: u32) -> bool {
+    match command {
+        Command::Text { range, limit } => range.start == start
+            && range.end == end
+            && *limit == expected,
+        _ => false,
+    }
+}
+
+fn is_hello(commands: &[Command]) -> bool {
+    commands.len() == 2
+        && is_edit(&commands[0], point(0, 0), point(0, 0), "hi")
+        && is_look(&commands[1], point(0, 0), point(9, 9), 100)
+}
+
+fn reads_hello(alloc: Global) -> bool {
+    match read_script(alloc, HELLO) {
+        Ok(script) => {
+            let sessions = script.sessions.as_slice();
+            script.version == 1
+                && opens_with(&script.opening, "")
+                && sessions.len() == 1
+                && is_hello(sessions[0].as_slice())
+        }
+        Err(_) => false,
+    }
+}
+
+#[test]
+fn reads_each_field_of_a_script(rt: HostRuntime) {
+    assert!(rt; reads_hello(rt.alloc()));
+}
+
+// ---- transcripts
+
+fn hits(touch: u64, inside: u64, overlap: u64, surround: u64) -> HitNumbers {
+    HitNumbers {
+        touch,
+        inside,
+        overlap,
+        surround,
+    }
+}
+
+fn span(start: Point, end: Point) -> Span {
+    Span { start, end }
+}
+
+fn one<T: Drop>(alloc: Global, member: T) -> Result<Sequence<T>, NoMemory> {
+    let mut members = Vec::new(alloc);
+    members.push(member)?;
+    Ok(Sequence::new(members))
+}
+
+fn none<T>(alloc: Global) -> Sequence<T> {
+    Sequence::new(Vec::new(alloc))
+}
+
+fn two<T: Drop>(alloc: Global, first: T, second: T) -> Result<Sequence<T>, NoMemory> {
+    let mut members = Vec::new(alloc);
+    members.push(first)?;
+    members.push(second)?;
+    Ok(Sequence::new(members))
+}
+
+fn text(alloc: Global, characters: &str) -> Result<Text, NoMemory> {
+    Ok(Text::from_str(alloc, characters)?)
+}
+
+// The transcript with this end and these replies.
+fn transcript(
+    alloc: Global,
+    count: u64,
+    last: &str,
+    sessions: Sequence<Sequence<Reply>>,
+) -> Result<Transcript, NoMemory> {
+    Ok(Transcript {
+        end: TranscriptEnd {
+            count,
+            text: text(alloc, last)?,
+        },
+        sessions,
+        version: 1,
+    })
+}
+
+// Whether the text of the transcript is this one.
+fn is_written(alloc: Global, transcript: Result<Transcript, NoMemory>, expected: &str) -> bool {
+    match transcript {
+        Ok(transcript) => has_text(alloc, &transcript, expected),
+        Err(NoMemory) => false,
+    }
+}
+
+fn has_text(alloc: Global, transcript: &Transcript, expected: &str) -> bool {
+    match transcript_bytes(alloc, transcript) {
+        Ok(bytes) => bytes.as_slice() == expected.as_bytes(),
+        Err(NoMemory) => false,
+    }
+}
+
+fn edited(at: u64, end: Point, from: Point, numbers: HitNumbers, to: Point) -> Reply {
+    Reply::Edited {
+        at,
+        end,
+        from,
+        hits: numbers,
+        to,
+    }
+}
+
+fn shown(alloc: Global, at: u64, characters: &str, units: u64) -> Result<Reply, NoMemory> {
+    Ok(Reply::Text {
+        at,
+        text: text(alloc, characters)?,
+        units,
+    })
+}
+
+// The transcript of `HELLO`.
+fn hello(alloc: Global) -> Result<Transcript, NoMemory> {
+    let first = edited(1, point(0, 2), point(0, 0), hits(0, 0, 0, 0), point(0, 0));
+    let second = shown(alloc, 2, "hi", 2)?;
+    let replies = two(alloc, first, second)?;
+    transcript(alloc, 2, "hi", one(alloc, replies)?)
+}
+
+#[test]
+fn writes_the_transcript_of_an_edit_and_a_text(rt: HostRuntime) {
+    let alloc = rt.alloc();
+    assert!(rt;
+        is_written(
+            alloc,
+            hello(alloc),
+            "{\"end\":{\"count\":2,\"text\":\"hi\"},\"sessions\":[[{\"at\":1,\"end\":[0,2],\"from\":[0,0],\"hits\":[0,0,0,0],\"to\":[0,0]},{\"at\":2,\"text\":\"hi\",\"units\":2}]],\"version\":1}\n"
+        )
+    );
+}
+
+// Two sessions, a refusal with the greatest number, the greatest column, and characters that are escaped.
+fn odd(alloc: Global) -> Result<Transcript, NoMemory> {
+    let first = Reply::Refused {
+        at: u64::MAX,
+        no: CallRefusal::TooLong,
+    };
+    let second = edited(
+        2,
+        point(3, 4),
+        point(5, 6),
+        hits(7, 8, 9, 10),
+        point(u32::MAX, 11),
+    );
+    let replies = two(alloc, first, second)?;
+    transcript(
+        alloc,
+        2,
+        "\"\\\n\u{1}\u{1F600}",
+        two(alloc, replies, none(alloc))?,
+    )
+}
+
+#[test]
+fn writes_refusals_sessions_and_escapes(rt: HostRuntime) {
+    let alloc = rt.alloc();
+    assert!(rt;
+        is_written(
+            alloc,
+            odd(alloc),
+            "{\"end\":{\"count\":2,\"text\":\"\\\"\\\\\\n\\u0001\u{1F600}\"},\"sessions\":[[{\"at\":18446744073709551615,\"no\":\"TooLong\"},{\"at\":2,\"end\":[3,4],\"from\":[5,6],\"hits\":[7,8,9,10],\"to\":[4294967295,11]}],[]],\"version\":1}\n"
+        )
+    );
+}
+
+// Whether a transcript with this one reply is written with this text in its place.
+fn replies_with(alloc: Global, reply: Result<Reply, NoMemory>, expected: &str) -> bool {
+    match alone(alloc, reply) {
+        Ok(transcript) => has_reply(alloc, &transcript, expected),
+        Err(NoMemory) => false,
+    }
+}
+
+fn alone(alloc: Global, reply: Result<Reply, NoMemory>) -> Result<Transcript, NoMemory> {
+    let replies = one(alloc, reply?)?;
+    transcript(alloc, 1, "", one(alloc, replies)?)
+}
+
+fn has_reply(alloc: Global, transcript: &Transcript, expected: &str) -> bool {
+    match format!(in alloc;
+        "{{\"end\":{{\"count\":1,\"text\":\"\"}},\"sessions\":[[{expected}]],\"version\":1}}\n"
+    ) {
+        Ok(whole) => has_text(alloc, transcript, whole.as_str()),
+        Err(_) => false,
+    }
+}
+
+fn batched(alloc: Global) -> Result<Reply, NoMemory> {
+    let part = ReplyPart {
+        end: point(0, 1),
+        from: point(0, 0),
+        hits: hits(1, 2, 3, 4),
+        to: point(0, 2),
+    };
+    Ok(Reply::Batched {
+        at: 7,
+        edits: one(alloc, part)?,
+    })
+}
+
+#[test]
+fn writes_batches(rt: HostRuntime) {
+    let alloc = rt.alloc();
+    assert!(rt;
+        replies_with(
+            alloc,
+            batched(alloc),
+            "{\"at\":7,\"edits\":[{\"end\":[0,1],\"from\":[0,0],\"hits\":[1,2,3,4],\"to\":[0,2]}]}"
+        )
+    );
+}
+
+// The end of a range stands before its start here, and is written so.
+#[test]
+fn writes_numbers_and_ranges(rt: HostRuntime) {
+    let alloc = rt.alloc();
+    let range = Reply::Range {
+        at: 4,
+        exclusive: true,
+        range: span(point(3, 2), point(1, 0)),
+    };
+    assert!(rt; replies_with(alloc, Ok(Reply::Numbered { at: 3 }), "{\"at\":3}"));
+    assert!(rt;
+        replies_with(
+            alloc,
+            Ok(range),
+            "{\"at\":4,\"exclusive\":true,\"range\":[3,2,1,0]}"
+        )
+    );
+}
+
+fn marks(alloc: Global) -> Result<Reply, NoMemory> {
+    Ok(Reply::Marks {
+        at: 5,
+        ids: two(alloc, 0u32, u32::MAX)?,
+    })
+}
+
+#[test]
+fn writes_ids(rt: HostRuntime) {
+    let alloc = rt.alloc();
+    assert!(rt; replies_with(alloc, marks(alloc), "{\"at\":5,\"ids\":[0,4294967295]}"));
+}
+
+fn order_is(alloc: Global, order: MarkOrder, word: &str) -> bool {
+    match format!(in alloc; "{{\"at\":6,\"order\":\"{word}\"}}") {
+        Ok(expected) => replies_with(alloc, Ok(Reply::Order { at: 6, order }), expected.as_str()),
+        Err(_) => false,
+    }
+}
+
+#[test]
+fn writes_orders_and_counts(rt: HostRuntime) {
+    let alloc = rt.alloc();
+    assert!(rt; order_is(alloc, MarkOrder::Before, "before"));
+    assert!(rt; order_is(alloc, MarkOrder::Same, "same"));
+    assert!(rt; order_is(alloc, MarkOrder::After, "after"));
+    assert!(rt;
+        replies_with(
+            alloc,
+            Ok(Reply::Heard { at: 8, heard: 9 }),
+            "{\"at\":8,\"heard\":9}"
+        )
+    );
+}
+
+fn refusal_is(alloc: Global, no: CallRefusal, word: &str) -> bool {
+    match format!(in alloc; "{{\"at\":1,\"no\":\"{word}\"}}") {
+        Ok(expected) => replies_with(alloc, Ok(Reply::Refused { at: 1, no }), expected.as_str()),
+        Err(_) => false,
+    }
+}
+
+#[test]
+fn writes_the_words_of_refusals(rt: HostRuntime) {
+    let rows = [
+        (CallRefusal::TooLong, "TooLong"),
+        (CallRefusal::Nothing, "Nothing"),
+        (CallRefusal::MarkTaken, "MarkTaken"),
+        (CallRefusal::MarkUnknown, "MarkUnknown"),
+        (CallRefusal::MarksFull, "MarksFull"),
+        (CallRefusal::WatchTaken, "WatchTaken"),
+        (CallRefusal::WatchFull, "WatchFull"),
+        (CallRefusal::WatchUnknown, "WatchUnknown"),
+    ];
+    for (no, word) in rows {
+        assert!(rt; refusal_is(rt.alloc(), no, word), "{word}");
+    }
+}
+
+#[test]
+fn writes_takes_and_nothing(rt: HostRuntime) {
+    let alloc = rt.alloc();
+    assert!(rt; replies_with(alloc, Ok(Reply::Taken { version: 2 }), "{\"version\":2}"));
+    assert!(rt; replies_with(alloc, Ok(Reply::Nothing), "null"));
+}
+
+fn answered(alloc: Global, answer: Result<ReadAnswer, NoMemory>) -> Result<Reply, NoMemory> {
+    Ok(Reply::Answered {
+        answers: one(alloc, answer?)?,
+    })
+}
+
+fn text_answer(alloc: Global) -> Result<ReadAnswer, NoMemory> {
+    Ok(ReadAnswer::Text {
+        text: text(alloc, "a")?,
+        units: 1,
+    })
+}
+
+fn found_answer(alloc: Global) -> Result<ReadAnswer, NoMemory> {
+    Ok(ReadAnswer::Found {
+        count: u64::MAX,
+        hits: one(alloc, span(point(0, 1), point(0, 2)))?,
+    })
+}
+
+#[test]
+fn writes_answers(rt: HostRuntime) {
+    let alloc = rt.alloc();
+    let size = ReadAnswer::Size {
+        extent: point(1, 2),
+        units: 3,
+    };
+    assert!(rt;
+        replies_with(
+            alloc,
+            answered(alloc, Ok(size)),
+            "{\"answers\":[{\"extent\":[1,2],\"units\":3}]}"
+        )
+    );
+    assert!(rt;
+        replies_with(
+            alloc,
+            answered(alloc, text_answer(alloc)),
+            "{\"answers\":[{\"text\":\"a\",\"units\":1}]}"
+        )
+    );
+}
+
+#[test]
+fn writes_hits_and_saves(rt: HostRuntime) {
+    let alloc = rt.alloc();
+    let saved = Ok(ReadAnswer::Saved { bytes: 4 });
+    assert!(rt;
+        replies_with(
+            alloc,
+            answered(alloc, found_answer(alloc)),
+            "{\"answers\":[{\"count\":18446744073709551615,\"hits\":[[0,1,0,2]]}]}"
+        )
+    );
+    assert!(rt;
+        replies_with(
+            alloc,
+            answered(alloc, saved),
+            "{\"answers\":[{\"bytes\":4}]}"
+        )
+    );
+}
+
+fn shows(alloc: Global, rule: ScriptRule, name: &str) -> bool {
+    match format!(in alloc; "{rule}") {
+        Ok(shown) => shown.as_str() == name && rule.name() == name,
+        Err(_) => false,
+    }
+}
+
+#[test]
+fn rules_have_names(rt: HostRuntime) {
+    let rows = [
+        (ScriptRule::NotJson, "NotJson"),
+        (ScriptRule::BadShape, "BadShape"),
+        (ScriptRule::TooMany, "TooMany"),
+        (ScriptRule::UnknownSnapshot, "UnknownSnapshot"),
+        (ScriptRule::SnapshotTaken, "SnapshotTaken"),
+        (ScriptRule::BadNumber, "BadNumber"),
+        (ScriptRule::BadEncoding, "BadEncoding"),
+        (ScriptRule::EmptyNeedle, "EmptyNeedle"),
+        (ScriptRule::BadName, "BadName"),
+    ];
+    for (rule, name) in rows {
+        assert!(rt; shows(rt.alloc(), rule, name), "{name}");
+    }
+}
