@@ -1,5 +1,5 @@
-ghost use Rattle.std.specs.Prelude.{◌≡◌, ◌↔◌, None, IfSome};
-ghost use Rattle.buffer_cli.specs.Exit.{exit_code};
+ghost use Rattle.std.specs.Prelude.{◌≡◌, ◌↔◌, Some, None, IfSome};
+ghost use Rattle.buffer_cli.specs.Exit.{exit_code, fault_text, rule_name};
 ghost use Rattle.buffer_cli.specs.declared.status.Status.TheVariants.{Done};
 
 use script::ScriptRule;
@@ -64,6 +64,8 @@ pub struct Fault {
 }
 
 impl fmt::Display for Fault {
+    ghost output = { λ fault. Some (fault_text fault.status) };
+
     fn fmt<W: fmt::Write>(&self, f: &mut fmt::Formatter<W>) -> fmt::Result {
         match self.status {
             Status::Done => Ok(()),
@@ -74,14 +76,23 @@ impl fmt::Display for Fault {
                 session,
                 command,
                 why,
-            } => write!(
-                f,
-                "script refused: session {session} command {command}: {why}"
-            ),
+            } => {
+                write!(f, "script refused: session {session} command {command}: ")?;
+                f.write_str(rule_name(why))
+            }
             Status::ReadFault => f.write_str("cannot read the input"),
             Status::WriteFault => f.write_str("cannot write the output"),
             Status::InputTooLong => f.write_str("input too long"),
             Status::NoMemory => f.write_str("out of memory"),
         }
+    }
+}
+
+fn rule_name(why: ScriptRule) -> &'static str
+    ensures { result.now ≡ rule_name why }
+{
+    match why {
+        ScriptRule::NotJson => "NotJson",
+        ScriptRule::BadShape => "BadShape",
     }
 }

@@ -27,5 +27,3 @@ pub use source::Source;
 pub use sure_sink::SureSink;
 pub use sure_source::SureSource;
 
-#[cfg(test)]
-mod tests;
