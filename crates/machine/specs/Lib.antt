@@ -1,0 +1,9 @@
+pub mod Limits
+pub mod Machine
+pub mod Hits
+pub mod Encodings
+pub mod Answers
+pub mod Lawful
+pub mod Plain
+pub mod Laws
+pub mod Bare

@@ -1,0 +1,1 @@
+//! Laws of the plain machine and of lawful transcripts, each the contract of a function that does nothing.
