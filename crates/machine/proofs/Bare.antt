@@ -1,20 +1,19 @@
 -- What an edit and a look answer on a text alone, case by case; and that a script of these alone is answered as well without
 -- what could be taken back.
-use Rattle.std.proofs.Common.{◌≡◌, ℕ, ◌+◌, ◌-◌, ◌<◌, ◌≤◌, List, [], ◌∷◌, length, drop, Bool, true, false, cond, Option, Some, None, refl, sym, subst, ap, ◌∙◌, inl, inr, arith}
-use Rattle.std.specs.Prelude.{◌==◌, ◌&&◌, nat_lt, Result, Ok, Err, ◌↔◌}
+use Rattle.std.proofs.Common.{◌≡◌, ℕ, ◌+◌, ◌-◌, ◌<◌, ◌≤◌, List, [], ◌∷◌, length, drop, Bool, true, false, cond, Option, Some, None, refl, sym, subst, ap, ◌∙◌, inl, inr}
+use Rattle.std.specs.Prelude.{◌==◌, ◌&&◌, Result, Ok, Err, ◌↔◌}
 use Rattle.std.specs.List.{AllByRecursion}
 use Rattle.std.proofs.lemmas.Bool.{lt-ltb, le-ltb, cases_lt, false≢true}
 use Rattle.points.specs.declared.point.Point.{Point}
 use Rattle.points.specs.declared.range.Range.{Range}
-use Rattle.points.specs.Text.{replaced, text_of}
+use Rattle.points.specs.Text.{replaced}
 use Rattle.points.specs.Place.{point_at, clip, clipped_offset, span}
 use Rattle.points.proofs.ClipLemmas.{clipped_at}
 use Rattle.machine.specs.declared.command.Command.{Command}
 use Rattle.machine.specs.declared.command.Command.TheVariants as command
 use Rattle.machine.specs.declared.reply.CallRefusal.TheVariants.{TooLong}
-use Rattle.machine.specs.declared.reply.Reply.{Reply}
-use Rattle.machine.specs.Limits.{MAX_UNITS}
-use Rattle.machine.specs.Machine.{State, Answer, Progress, Edited, Refused, Shown, edit, look, step, counted, no_hits, nothing_made, one_made, member_at, edited, edited_one, shown, between}
+use Rattle.points.specs.declared.limits.TheConstants.{MAX_UNITS}
+use Rattle.machine.specs.Machine.{State, Answer, Edited, Refused, Shown, edit, look, step, no_hits, nothing_made, one_made, edited, edited_one, shown, between}
 use Rattle.machine.specs.Bare.{bare_state, bare, is_plain, bare_next, bare_reply, bare_after, bare_replies}
 use Rattle.machine.specs.Answers.{Matches, call_of, reply_of}
 use Rattle.machine.specs.Lawful.{patterns_in}

@@ -1,5 +1,5 @@
 -- The plain machine on small texts, worked out by computing.
-use Rattle.std.proofs.Common.{◌≡◌, ℕ, List, [], ◌∷◌, true, false, refl}
+use Rattle.std.proofs.Common.{◌≡◌, ℕ, [], ◌∷◌, true, false, refl}
 use Rattle.points.specs.declared.point.Point.{Point}
 use Rattle.points.specs.declared.range.Range.{Range}
 use Rattle.points.specs.declared.mark.HitCounts.{HitCounts}
@@ -7,8 +7,7 @@ use Rattle.points.specs.Point.{point_le}
 use Rattle.machine.specs.declared.reply.CallRefusal.TheVariants as no
 use Rattle.machine.specs.declared.command.How.TheVariants.{Intersecting}
 use Rattle.points.specs.declared.mark.MarkOrder.TheVariants.{Same}
-use Rattle.points.specs.declared.mark.Mark.{Mark}
-use Rattle.machine.specs.Machine.{Answer, Part, State, opened, edit, batch, undo, redo, look, add_mark, remove_mark, mark_range, find_marks, compare_marks, watch, unwatch, Edited, Batched, Shown, Done, Ranged, Found, Compared, Heard, Refused, step, answers, after, no_hits}
+use Rattle.machine.specs.Machine.{Part, opened, edit, batch, undo, redo, look, add_mark, remove_mark, mark_range, find_marks, compare_marks, watch, unwatch, Edited, Batched, Shown, Done, Ranged, Found, Compared, Heard, Refused, step, answers, after}
 
 at : ℕ → ℕ → Point
 at row column = record { row = row; column = column }

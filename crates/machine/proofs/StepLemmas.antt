@@ -1,13 +1,13 @@
 -- What a call of the plain machine does to the count, the version and the text.
-use Rattle.std.proofs.Common.{◌≡◌, ℕ, suc, ◌+◌, List, [], ◌∷◌, ◌++◌, length, Bool, true, false, cond, Option, Some, None, refl, sym, ◌∙◌, ap, subst, arith, inl, inr, ◌⊎◌}
-use Rattle.std.specs.Prelude.{◌==◌, ◌&&◌, nat_lt, nat_le, is_some, option_and_then, option_map, unwrap_or, map, filter}
+use Rattle.std.proofs.Common.{◌≡◌, ℕ, suc, ◌+◌, List, [], ◌∷◌, length, Bool, true, false, cond, Option, Some, None, refl, sym, ◌∙◌, ap, arith, inl, inr, ◌⊎◌}
+use Rattle.std.specs.Prelude.{◌==◌, ◌&&◌, nat_lt, nat_le, is_some, option_and_then, option_map}
 use Rattle.points.specs.declared.point.Point.{Point}
 use Rattle.points.specs.declared.mark.Mark.{Mark}
 use Rattle.points.specs.Text.{replaced}
-use Rattle.points.specs.Place.{offset_of, span, clip}
-use Rattle.points.specs.MarkList.{mark_with, with_mark, MAX_MARKS}
-use Rattle.machine.specs.Limits.{MAX_UNITS, MAX_WATCHERS}
-use Rattle.machine.specs.Machine.{State, Change, Step, Part, Progress, Edit, Call, Answer, Batched, Edited, Refused, Watching, edit, batch, undo, redo, look, add_mark, remove_mark, set_exclusive, mark_range, find_marks, compare_marks, watch, unwatch, counted, changed, part_of, nothing_made, one_made, member_at, member, joined, members, with_step, edited, put, undone, redone, undo_step, redo_step, on_mark, add_step, watch_step, unwatch_step, watcher_with, step}
+use Rattle.points.specs.Place.{span}
+use Rattle.points.specs.MarkList.{mark_with, with_mark}
+use Rattle.points.specs.declared.limits.TheConstants.{MAX_UNITS, MAX_MARKS, MAX_WATCHERS}
+use Rattle.machine.specs.Machine.{State, Change, Step, Part, Progress, Edit, Call, Answer, Batched, Watching, edit, batch, undo, redo, look, add_mark, remove_mark, set_exclusive, mark_range, find_marks, compare_marks, watch, unwatch, counted, nothing_made, one_made, member, joined, members, with_step, edited, put, undone, redone, undo_step, redo_step, on_mark, add_step, watch_step, unwatch_step, watcher_with, step}
 use Rattle.machine.specs.Laws.{IsNumbered, StepNumbers}
 
 -- what holds of both holds of the chosen one

@@ -1,7 +1,6 @@
 -- The plain machine's calls and answers in the words of commands and replies, and what the reads of a snapshot answer.
-use Rattle.std.specs.Prelude.{◌≡◌, ℕ, ◌+◌, ◌-◌, ◌==◌, List, [], ◌∷◌, length, map, take, if◌then◌else◌, Option, Some, None}
+use Rattle.std.specs.Prelude.{ℕ, ◌+◌, ◌-◌, ◌==◌, List, [], ◌∷◌, length, map, take, if◌then◌else◌, Option, Some, None}
 use Rattle.points.specs.declared.point.Point.{Point}
-use Rattle.points.specs.declared.range.Range.{Range}
 use Rattle.points.specs.declared.mark.HitCounts.{HitCounts}
 use Rattle.points.specs.Text.{utf16_of, text_of}
 use Rattle.points.specs.Place.{point_at, extent, span}
@@ -20,7 +19,7 @@ use Rattle.machine.specs.declared.reply.Reply.{Reply}
 use Rattle.machine.specs.declared.reply.Reply.TheVariants as reply
 use Rattle.machine.specs.declared.reply.Span.{Span}
 use Rattle.machine.specs.Machine.{Part, Call, Answer, Edit, no_hits, edit, batch, undo, redo, look, add_mark, remove_mark, set_exclusive, mark_range, find_marks, compare_marks, watch, unwatch, Edited, Batched, Shown, Done, Ranged, Found, Compared, Heard, Refused, shown, between}
-use Rattle.machine.specs.Hits.{hits}
+use Rattle.points.specs.Literal.{hits}
 use Rattle.machine.specs.Encodings.{encode}
 
 -- the edit that a member of a batch makes

@@ -1,5 +1,5 @@
 -- A machine that forgets what it could take back, and its watchers: for scripts that edit and look alone.
-use Rattle.std.specs.Prelude.{ℕ, ◌+◌, List, [], ◌∷◌, Bool, true, false}
+use Rattle.std.specs.Prelude.{ℕ, List, [], ◌∷◌, Bool, true, false}
 use Rattle.machine.specs.declared.command.Command.{Command}
 use Rattle.machine.specs.declared.command.Command.TheVariants as command
 use Rattle.machine.specs.declared.reply.Reply.{Reply}

@@ -1,9 +1,8 @@
 -- Which transcripts of a script are lawful: those of a plain string.
-use Rattle.std.specs.Prelude.{◌≡◌, ℕ, zero, suc, ◌+◌, ◌<◌, ◌≤◌, ◌==◌, ◌&&◌, ◌||◌, ◌⊎◌, List, [], ◌∷◌, ◌++◌, length, map, take, drop, find, sum_by, count_by, Bool, true, false, if◌then◌else◌, Option, Some, None}
+use Rattle.std.specs.Prelude.{◌≡◌, ℕ, zero, suc, ◌+◌, ◌<◌, ◌≤◌, ◌==◌, ◌&&◌, ◌||◌, ◌⊎◌, List, [], ◌∷◌, ◌++◌, length, map, drop, find, sum_by, count_by, Bool, true, false, if◌then◌else◌, Option, Some, None}
 use Rattle.std.specs.List.Sorted.{IsStrictlyIncreasing}
 use Rattle.std.specs.List.{AllByRecursion}
 use Rattle.points.specs.Text.{text_of}
-use Rattle.machine.specs.declared.command.BatchEdit.{BatchEdit}
 use Rattle.machine.specs.declared.command.Command.{Command}
 use Rattle.machine.specs.declared.command.Command.TheVariants as command
 use Rattle.machine.specs.declared.command.Script.{Script}
@@ -13,7 +12,6 @@ use Rattle.machine.specs.declared.reads.ReadAnswer.{ReadAnswer}
 use Rattle.machine.specs.declared.reads.ReadAnswer.TheVariants as answer
 use Rattle.machine.specs.declared.reply.CallRefusal.{CallRefusal}
 use Rattle.machine.specs.declared.reply.CallRefusal.TheVariants as no
-use Rattle.machine.specs.declared.reply.ReplyPart.{ReplyPart}
 use Rattle.machine.specs.declared.reply.Reply.{Reply}
 use Rattle.machine.specs.declared.reply.Reply.TheVariants as reply
 use Rattle.machine.specs.declared.reply.Transcript.{Transcript}

@@ -10,12 +10,12 @@ use Rattle.points.specs.declared.mark.MarkOrder.{MarkOrder}
 use Rattle.points.specs.Text.{replaced}
 use Rattle.points.specs.Place.{point_at, offset_of, clip, splits_pair, span}
 use Rattle.points.specs.Marks.{intersects, contains, is_contained_in, starts_in, starts_at, ends_in, ends_at, mark_order}
-use Rattle.points.specs.MarkList.{MAX_MARKS, ids_where, hit_counts, mark_with, with_mark, without_mark, with_exclusive, all_moved}
+use Rattle.points.specs.MarkList.{ids_where, hit_counts, mark_with, with_mark, without_mark, with_exclusive, all_moved}
 use Rattle.machine.specs.declared.command.How.{How}
 use Rattle.machine.specs.declared.command.How.TheVariants as how
 use Rattle.machine.specs.declared.reply.CallRefusal.{CallRefusal}
 use Rattle.machine.specs.declared.reply.CallRefusal.TheVariants as no
-use Rattle.machine.specs.Limits.{MAX_UNITS, MAX_STEPS, MAX_WATCHERS}
+use Rattle.points.specs.declared.limits.TheConstants.{MAX_UNITS, MAX_MARKS, MAX_STEPS, MAX_WATCHERS}
 
 -- a change: where the text was replaced, what stood there before it and what stands there after it
 pub record Change : Type 0 where

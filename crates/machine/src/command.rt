@@ -33,15 +33,23 @@ pub struct BatchEdit {
 #[derive(Debug, Drop)]
 pub enum Command {
     /// Replaces the clipped range by the text.
-    Edit { range: Range, text: Text },
+    Edit {
+        range: Range,
+        text: Text,
+    },
     /// Edits several ranges in turn, under one number and as one step of undo. Only scripts of version 2 have it.
-    Batch { edits: Sequence<BatchEdit> },
+    Batch {
+        edits: Sequence<BatchEdit>,
+    },
     /// Takes the last step back.
     Undo,
     /// Makes the step again that was taken back last.
     Redo,
     /// Shows the first `limit` UTF-16 units of the clipped range.
-    Text { range: Range, limit: u32 },
+    Text {
+        range: Range,
+        limit: u32,
+    },
     /// Marks the clipped range.
     Mark {
         id: u32,
@@ -49,21 +57,40 @@ pub enum Command {
         exclusive: bool,
     },
     /// Removes a mark.
-    Unmark { id: u32 },
+    Unmark {
+        id: u32,
+    },
     /// Makes a mark exclusive (`value` is true) or inclusive.
-    Exclusive { id: u32, value: bool },
+    Exclusive {
+        id: u32,
+        value: bool,
+    },
     /// Shows where a mark is.
-    Range { id: u32 },
+    Range {
+        id: u32,
+    },
     /// Shows the ids of the marks that stand to the range as `how` says. The range isn't clipped.
-    Marks { how: How, range: Range },
+    Marks {
+        how: How,
+        range: Range,
+    },
     /// Shows how two marks stand to each other.
-    Compare { a: u32, b: u32 },
+    Compare {
+        a: u32,
+        b: u32,
+    },
     /// Attaches a watcher, which is told of each change from then on.
-    Watch { id: u32 },
+    Watch {
+        id: u32,
+    },
     /// Detaches a watcher.
-    Unwatch { id: u32 },
+    Unwatch {
+        id: u32,
+    },
     /// Takes a snapshot of the text under a number of the session's own.
-    Take { snapshot: u32 },
+    Take {
+        snapshot: u32,
+    },
     /// Reads a snapshot in the session.
     Read {
         snapshot: u32,
@@ -75,7 +102,9 @@ pub enum Command {
         reads: Sequence<Read>,
     },
     /// Ends the number of a snapshot.
-    Release { snapshot: u32 },
+    Release {
+        snapshot: u32,
+    },
     /// Squashes the layers of the text.
     Squash,
 }

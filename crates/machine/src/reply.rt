@@ -62,11 +62,20 @@ pub enum Reply {
         to: Point,
     },
     /// A batch, and in version 2 an undo and a redo: what was done, in the order in which it was done.
-    Batched { at: u64, edits: Sequence<ReplyPart> },
+    Batched {
+        at: u64,
+        edits: Sequence<ReplyPart>,
+    },
     /// A text shown, and the number of UTF-16 units of the whole range.
-    Text { at: u64, text: Text, units: u64 },
+    Text {
+        at: u64,
+        text: Text,
+        units: u64,
+    },
     /// A call that was done and tells no more.
-    Numbered { at: u64 },
+    Numbered {
+        at: u64,
+    },
     /// Where a mark is, and whether it is exclusive.
     Range {
         at: u64,
@@ -74,17 +83,33 @@ pub enum Reply {
         range: Span,
     },
     /// The ids of marks.
-    Marks { at: u64, ids: Sequence<u32> },
+    Marks {
+        at: u64,
+        ids: Sequence<u32>,
+    },
     /// How two marks stand to each other.
-    Order { at: u64, order: MarkOrder },
+    Order {
+        at: u64,
+        order: MarkOrder,
+    },
     /// How many changes a watcher was told.
-    Heard { at: u64, heard: u64 },
+    Heard {
+        at: u64,
+        heard: u64,
+    },
     /// A refused call.
-    Refused { at: u64, no: CallRefusal },
+    Refused {
+        at: u64,
+        no: CallRefusal,
+    },
     /// The version of the text that a snapshot was taken of.
-    Taken { version: u64 },
+    Taken {
+        version: u64,
+    },
     /// The answers to the reads of a snapshot, in their order.
-    Answered { answers: Sequence<ReadAnswer> },
+    Answered {
+        answers: Sequence<ReadAnswer>,
+    },
     /// A command that tells nothing.
     Nothing,
 }
