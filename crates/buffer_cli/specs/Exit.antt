@@ -1,7 +1,6 @@
 -- What the program tells of a status.
 use Rattle.std.specs.Prelude.{ℕ, List, [], ◌++◌, codes, decimal}
-use Rattle.script.specs.declared.refusal.ScriptRule.{ScriptRule}
-use Rattle.script.specs.declared.refusal.ScriptRule.TheVariants as rule
+use Rattle.script.specs.RuleName.{rule_name}
 use Rattle.buffer_cli.specs.declared.status.Status.{Status}
 use Rattle.buffer_cli.specs.declared.status.Status.TheVariants as status
 
@@ -14,10 +13,6 @@ exit_code status.ReadFault = 4
 exit_code status.WriteFault = 5
 exit_code status.InputTooLong = 8
 exit_code status.NoMemory = 9
-
-abbrev pub rule_name : ScriptRule → List ℕ
-rule_name rule.NotJson = codes "NotJson"
-rule_name rule.BadShape = codes "BadShape"
 
 -- the line on standard error, without its end
 abbrev pub fault_text : Status → List ℕ

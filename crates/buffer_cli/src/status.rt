@@ -1,5 +1,6 @@
+//! How a run ends: its status, the exit status of the program, and the line on standard error.
 ghost use Rattle.std.specs.Prelude.{◌≡◌, ◌↔◌, Some, None, IfSome};
-ghost use Rattle.buffer_cli.specs.Exit.{exit_code, fault_text, rule_name};
+ghost use Rattle.buffer_cli.specs.Exit.{exit_code, fault_text};
 ghost use Rattle.buffer_cli.specs.declared.status.Status.TheVariants.{Done};
 
 use script::ScriptRule;
@@ -76,23 +77,14 @@ impl fmt::Display for Fault {
                 session,
                 command,
                 why,
-            } => {
-                write!(f, "script refused: session {session} command {command}: ")?;
-                f.write_str(rule_name(why))
-            }
+            } => write!(
+                f,
+                "script refused: session {session} command {command}: {why}"
+            ),
             Status::ReadFault => f.write_str("cannot read the input"),
             Status::WriteFault => f.write_str("cannot write the output"),
             Status::InputTooLong => f.write_str("input too long"),
             Status::NoMemory => f.write_str("out of memory"),
         }
-    }
-}
-
-fn rule_name(why: ScriptRule) -> &'static str
-    ensures { result.now ≡ rule_name why }
-{
-    match why {
-        ScriptRule::NotJson => "NotJson",
-        ScriptRule::BadShape => "BadShape",
     }
 }
