@@ -8,6 +8,10 @@
 #[cfg(test)]
 mod line_text_tests;
 #[cfg(test)]
+mod markers_tests;
+#[cfg(test)]
 mod outer_tests;
 #[cfg(test)]
 mod points_tests;
+#[cfg(test)]
+mod splay_tests;

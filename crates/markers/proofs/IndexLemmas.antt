@@ -6,7 +6,8 @@ use Rattle.points.specs.declared.mark.Mark.{Mark}
 use Rattle.points.specs.declared.mark.Splice.{Splice}
 use Rattle.points.specs.Point.{point_le}
 use Rattle.points.specs.Marks.{moved}
-use Rattle.points.specs.MarkList.{AreMarks, IsRange, MAX_MARKS, all_moved}
+use Rattle.points.specs.MarkList.{AreMarks, IsRange, all_moved}
+use Rattle.points.specs.declared.limits.TheConstants.{MAX_MARKS}
 use Rattle.points.proofs.MarkListLemmas.{marks-with, marks-without, marks-exclusive, marks-moved}
 use Rattle.markers.specs.Index.{IsIndex}
 use Rattle.markers.specs.Search.{StandsAt, IsGap}

@@ -3,4 +3,3 @@ pub mod EndLemmas
 pub mod MoveLemmas
 pub mod SearchLemmas
 pub mod IndexLemmas
-pub mod TextLemmas

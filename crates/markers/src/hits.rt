@@ -1,30 +1,16 @@
 //! Which marks a splice hits, in four senses.
 ghost use Rattle.std.specs.Prelude.{◌≡◌, ◌+◌, ◌<◌, ◌^◌, length, IfOk, if◌then◌else◌};
 ghost use Rattle.points.specs.Marks.{touches, is_inside, overlaps, surrounds};
-ghost use Rattle.points.specs.MarkList.{hit_counts};
-ghost use Rattle.markers.specs.Hits.{AreHits};
+ghost use Rattle.points.specs.MarkList.{hit_counts, hits_of};
 
 use crate::wanted::{Wanted, ids_where};
-use points::{HitCounts, Mark, NoMemory, Splice};
+use points::{HitCounts, Hits, Ids, Mark, NoMemory, Splice};
 use std::alloc::Global;
-
-/// The ids of the marks that a splice hits, in each of the four senses and in rising order.
-#[derive(Debug, Drop)]
-pub struct Hits {
-    /// Marks that have a point in common with the replaced text.
-    pub touch: Vec<u32>,
-    /// Marks that end behind its start and start before its end.
-    pub inside: Vec<u32>,
-    /// Marks with a boundary strictly within it.
-    pub overlap: Vec<u32>,
-    /// Marks that lie strictly within it.
-    pub surround: Vec<u32>,
-}
 
 /// The ids of the marks that the splice hits.
 pub(crate) fn hits_of(alloc: Global, marks: &[Mark], splice: Splice) -> Result<Hits, NoMemory>
     requires { length marks.now < 2 ^ 32 }
-    ensures { IfOk result (AreHits splice marks.now) }
+    ensures { IfOk result (λ hits. hits ≡ hits_of splice marks.now) }
 {
     let counts = counts_of(marks, splice);
     let touch = ids_where(alloc, marks, Wanted::Touched(splice), counts.touch as usize)?;
@@ -42,10 +28,10 @@ pub(crate) fn hits_of(alloc: Global, marks: &[Mark], splice: Splice) -> Result<H
         counts.surround as usize,
     )?;
     Ok(Hits {
-        touch,
-        inside,
-        overlap,
-        surround,
+        touch: Ids::from_vec(touch),
+        inside: Ids::from_vec(inside),
+        overlap: Ids::from_vec(overlap),
+        surround: Ids::from_vec(surround),
     })
 }
 

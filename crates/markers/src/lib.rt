@@ -6,6 +6,7 @@
 #![tactic(auto)]
 
 mod edits;
+mod finds;
 mod fits;
 mod hits;
 mod index;
@@ -13,11 +14,8 @@ pub mod laws;
 mod movement;
 mod refusal;
 mod search;
-#[cfg(test)]
-mod tests;
 mod wanted;
 
-pub use hits::Hits;
-pub use index::{MAX_MARKS, MarkerIndex};
-pub use points::{HitCounts, MarkOrder};
+pub use index::MarkerIndex;
+pub use points::{HitCounts, Hits, Ids, MAX_MARKS, MarkOrder};
 pub use refusal::{MarkUnknown, MarkerRefusal};

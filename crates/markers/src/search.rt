@@ -1,11 +1,50 @@
 //! Marks found by id, compared, and the last of their ends.
-ghost use Rattle.std.specs.Prelude.{◌≡◌, IsTrue, IsSome, IsNone, IfOk, IfErr, IfSome, OnOk, OnErr};
+ghost use Rattle.std.specs.Prelude.{◌≡◌, option_map, IsTrue, IsSome, IsNone, IfOk, IfErr, IfSome, OnOk, OnErr};
+ghost use Rattle.std.specs.Result.{result_ok};
 ghost use Rattle.points.specs.Point.{point_le};
 ghost use Rattle.points.specs.Marks.{comes_before, mark_order};
 ghost use Rattle.points.specs.MarkList.{AreMarks, mark_with, last_end};
-ghost use Rattle.markers.specs.Search.{StandsAt, IsGap, later_of};
+ghost use Rattle.markers.specs.Search.{StandsAt, IsGap, later_of, mark_seen, order_between};
 
-use points::{Mark, MarkOrder, Point};
+use crate::index::MarkerIndex;
+use crate::refusal::MarkUnknown;
+use points::{Mark, MarkOrder, Point, Range};
+
+impl MarkerIndex {
+    /// The range of a mark, and whether it is exclusive.
+    pub fn range_of(&self, id: u32) -> Result<(Range, bool), MarkUnknown>
+        ensures { option_map (mark_seen id) (result_ok result) ≡ mark_with id self.now }
+    {
+        let Some(mark) = mark_with(self.marks.as_slice(), id) else {
+            return Err(MarkUnknown);
+        };
+        Ok((Range::new(mark.start, mark.end), mark.exclusive))
+    }
+
+    /// How the mark of the first id stands to that of the second.
+    pub fn compare(&self, a: u32, b: u32) -> Result<MarkOrder, MarkUnknown>
+        ensures { result_ok result ≡ order_between a b self.now }
+    {
+        let Some(first) = mark_with(self.marks.as_slice(), a) else {
+            return Err(MarkUnknown);
+        };
+        let Some(second) = mark_with(self.marks.as_slice(), b) else {
+            return Err(MarkUnknown);
+        };
+        Ok(mark_order(first, second))
+    }
+
+    /// The greatest end of a mark; none where there is no mark.
+    pub fn last(&self) -> Option<Point>
+        ensures { result ≡ last_end self.now }
+    {
+        let mut last = None;
+        for mark in &self.marks {
+            last = Some(later(last, mark.end));
+        }
+        last
+    }
+}
 
 /// Where the mark with this id stands, or else where it would stand.
 pub(crate) fn place_of(marks: &[Mark], id: u32) -> Result<usize, usize>
@@ -23,8 +62,8 @@ pub(crate) fn place_of(marks: &[Mark], id: u32) -> Result<usize, usize>
     }
 }
 
-/// The mark with this id.
-pub(crate) fn mark_with(marks: &[Mark], id: u32) -> Option<Mark>
+// The mark with this id.
+fn mark_with(marks: &[Mark], id: u32) -> Option<Mark>
     requires { AreMarks marks.now }
     ensures mark { result ≡ mark_with id marks.now }
     ensures range { IfSome result (λ mark. IsTrue (point_le mark.start mark.end)) }
@@ -35,8 +74,8 @@ pub(crate) fn mark_with(marks: &[Mark], id: u32) -> Option<Mark>
     }
 }
 
-/// How the first mark stands to the second.
-pub(crate) fn mark_order(a: Mark, b: Mark) -> MarkOrder
+// How the first mark stands to the second.
+fn mark_order(a: Mark, b: Mark) -> MarkOrder
     ensures { result ≡ mark_order a b }
 {
     if comes_before(a, b) {
@@ -53,17 +92,6 @@ fn comes_before(a: Mark, b: Mark) -> bool
     ensures { result ≡ comes_before a b }
 {
     a.start < b.start || (a.start == b.start && (b.end < a.end || (a.end == b.end && a.id < b.id)))
-}
-
-/// The greatest end of a mark.
-pub(crate) fn last_end(marks: &[Mark]) -> Option<Point>
-    ensures { result ≡ last_end marks.now }
-{
-    let mut last = None;
-    for mark in marks {
-        last = Some(later(last, mark.end));
-    }
-    last
 }
 
 // The later of two points, or the one that there is.

@@ -2,23 +2,46 @@
 ghost use Rattle.std.specs.Prelude.{◌≡◌, ℕ, ◌+◌, ◌-◌, ◌<◌, ◌≤◌, ◌++◌, ◌∷◌, ◌||◌, List, [], length, take, drop, map, Bool, false, IsTrue, IfErr, OnOk, OnErr, MatchOption};
 ghost use Rattle.std.specs.List.{All};
 ghost use Rattle.points.specs.Point.{point_le, traverse, traversal};
+ghost use Rattle.points.specs.Distance.{is_far};
 ghost use Rattle.patch.specs.Hunk.{Hunk, hunk_of, hunks_of};
-ghost use Rattle.patch.specs.ChangeList.{is_far, IsOrdered, IsPatch};
+ghost use Rattle.patch.specs.ChangeList.{IsOrdered, IsPatch};
 ghost use Rattle.patch.specs.Stretches.{any_far, Refuses};
 ghost use Rattle.patch.specs.Spliced.{moved_hunk, spliced};
-ghost use Rattle.patch.specs.Splicing.{KeepsLimits};
+ghost use Rattle.patch.specs.Splicing.{CanSplice, IsSpliced, StandsForRun, StandsForMore, KeepsLimits};
 ghost use Rattle.patch.specs.Joints.{Joins, is_empty_joint, is_far_joint, joint_change, joint_list};
 
 use crate::change::Change;
 use crate::joint::{Joint, make_joint};
-use crate::patch::MAX_CHANGES;
-use crate::place::{is_far, traverse_near, way};
+use crate::patch::Patch;
 use crate::refusal::PatchRefusal;
-use points::{NoMemory, Point, Range, traverse};
+use points::{MAX_CHANGES, NoMemory, Point, Range, traversal, traverse, traverse_near};
 
-/// Makes the changes what they are after `deleted` at `start` was replaced by `inserted`. A refusal
-/// leaves them as they were.
-pub(crate) fn splice(
+impl Patch {
+    /// In the new text, replaces `deleted` at `start` by `inserted`: the patch becomes that of the
+    /// whole run. Some text that the patch fits must have `deleted` there in what the patch makes of
+    /// it. Refused as `TooFar` where a coordinate would pass [`MAX_COORD`](points::MAX_COORD), else as
+    /// `TooMany` above [`MAX_CHANGES`] changes. A refusal leaves the patch as it was.
+    pub fn splice(
+        &mut self,
+        start: Point,
+        deleted: &[u16],
+        inserted: &[u16],
+    ) -> Result<(), PatchRefusal>
+        requires { CanSplice self.old.changes start deleted.now }
+        ensures run { OnOk result (IsSpliced self.old.changes start deleted.now inserted.now self.new.changes) }
+        ensures stands { OnOk result (StandsForRun self.old.changes start deleted.now inserted.now self.new.changes) }
+        ensures stands_for_more { OnOk result (StandsForMore self.old.changes start deleted.now inserted.now self.new.changes) }
+        ensures within { OnOk result (KeepsLimits self.new.changes) }
+        ensures err { IfErr result (λ refusal. (run : List Hunk) × IsSpliced self.old.changes start deleted.now inserted.now run × Refuses run refusal) }
+        ensures kept { OnErr result (self.new.changes ≡ self.old.changes) }
+    {
+        splice_changes(&mut self.changes, start, deleted, inserted)
+    }
+}
+
+// Makes the changes what they are after `deleted` at `start` was replaced by `inserted`. A refusal
+// leaves them as they were.
+fn splice_changes(
     changes: &mut Vec<Change>,
     start: Point,
     deleted: &[u16],
@@ -81,10 +104,10 @@ fn is_far_joint(joint: &Joint) -> bool
     ensures { result ≡ is_far_joint joint.now }
 {
     !is_empty_joint(joint)
-        && (is_far(joint.old_start)
-            || is_far(joint.old_end)
-            || is_far(joint.new_start)
-            || is_far(joint.new_end))
+        && (joint.old_start.is_far()
+            || joint.old_end.is_far()
+            || joint.new_start.is_far()
+            || joint.new_end.is_far())
 }
 
 // Whether a coordinate of a change from index `first` on passes the greatest one, where they move
@@ -105,8 +128,8 @@ fn any_moved_far(changes: &[Change], first: usize, from: Point, to: Point) -> bo
 fn range_far(range: Range, from: Point, to: Point) -> bool
     ensures { result ≡ (is_far (traverse to (traversal range.start from)) || is_far (traverse to (traversal range.end from))) }
 {
-    traverse_near(to, way(range.start, from)).is_none()
-        || traverse_near(to, way(range.end, from)).is_none()
+    traverse_near(to, traversal(range.start, from)).is_none()
+        || traverse_near(to, traversal(range.end, from)).is_none()
 }
 
 // Puts the joint in its place, and moves the changes behind it. A refusal leaves them as they were.
@@ -200,7 +223,7 @@ fn moved_range(range: Range, from: Point, to: Point) -> Range
     ensures end { result.end ≡ traverse to (traversal range.end from) }
 {
     Range::new(
-        traverse(to, way(range.start, from)),
-        traverse(to, way(range.end, from)),
+        traverse(to, traversal(range.start, from)),
+        traverse(to, traversal(range.end, from)),
     )
 }

@@ -1,6 +1,5 @@
 ghost use Rattle.std.specs.Prelude.{◌≡◌};
 
-use crate::place::at_most;
 use crate::{Change, ListRefusal, Patch, PatchRefusal, Run, Stretch, laws};
 use points::{MAX_COORD, Point, Range, Units};
 use std::alloc::Global;

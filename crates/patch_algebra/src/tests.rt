@@ -6,7 +6,6 @@ mod runs;
 use crate::{ApplyRefusal, apply, compose, fits};
 use line_text::LineText;
 use patch::laws::some_text_fits;
-use patch::place::at_most;
 use patch::{Change, Patch, PatchRefusal};
 use points::{MAX_COORD, Point, Range, Units};
 use std::alloc::Global;

@@ -6,13 +6,13 @@ use Rattle.splay.specs.Sums.{count_in}
 use Rattle.splay.specs.Tree.{NIL, Tree, Leaf, Fork, Top, flat, root_of}
 use Rattle.splay.specs.Nodes.{tally_at, Zipped, first_of}
 use Rattle.splay.specs.Places.{IsNode, IsNodeAt, StandsAt, RisesToTop, IsFound}
-use Rattle.splay.specs.Joins.{IsBesideSingle, IsBeforeSingle, CrownsBehind, CrownsBefore, TakesOut, IsPair, Glues}
+use Rattle.splay.specs.Roots.{IsBesideSingle, IsBeforeSingle, CrownsBehind, CrownsBefore, TakesOut, IsPair, Glues}
 use Rattle.splay.specs.Changes.{Inserts, HasItem, Removes, Looks}
 use Rattle.splay.proofs.Climb.{stands_node}
-use Rattle.splay.proofs.JoinLemmas.{AtTop, stands_top}
+use Rattle.splay.proofs.RootLemmas.{AtTop, stands_top}
 use Rattle.splay.proofs.ItemLemmas.{count_in-tally}
 use Rattle.splay.proofs.TreeLemmas.{tally_at-root}
-use Rattle.splay.specs.declared.join.Taken.{Taken}
+use Rattle.splay.specs.declared.roots.Taken.{Taken}
 use Rattle.splay.specs.declared.store.Node.{Node}
 
 pub slice_get-middle : {X : Type 0} (xs : List X) (y : X) (ys : List X) (n : ℕ) → length xs ≡ n → slice_get (xs ++ y ∷ ys) n ≡ Some y

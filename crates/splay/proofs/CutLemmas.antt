@@ -3,7 +3,7 @@ use Rattle.std.proofs.Common.{◌≡◌, ℕ, zero, suc, ◌+◌, ◌≤◌, ◌
 use Rattle.std.specs.Result.{OnOk, is_ok}
 use Rattle.std.proofs.lemmas.Option.{same_Some, slice_get_within}
 use Rattle.std.proofs.lemmas.List.{take_at, drop_at, drop_all, length-take-le}
-use Rattle.splay.specs.Items.{Items, load}
+use Rattle.splay.specs.Items.{load}
 use Rattle.splay.proofs.ItemLemmas.{load-append}
 
 module _ {X : Type 0} where
@@ -48,10 +48,6 @@ module _ {M V : Type 0} (weight : M → ℕ) where
   pub same_load : (xs ys zs ws : List (M × V)) → xs ++ ys ≡ zs ++ ws → load weight xs + load weight ys ≡ load weight zs + load weight ws
   same_load xs ys zs ws e = omega (arith, ap (load weight) e, load-append weight xs ys, load-append weight zs ws)
 
-module _ {M V : Type 0} where
-  pub same_view : (a b : Items M V) → a.items ≡ b.items → a.spare ≡ b.spare → a ≡ b
-  same_view a b p q = ap (λ xs. record { items = xs; spare = a.spare }) p ∙ ap (λ n. record { items = b.items; spare = n }) q
-
 -- a clause on a success, where it is known to be one
 pub at_ok : {T E : Type 0} (r : Result T E) (P : Type 0) → OnOk r P → is_ok r ≡ true → P
 at_ok (Ok x) P p e = p
@@ -74,26 +70,3 @@ module _ {X : Type 0} where
   pub undone_back : (l r l' r' l'' r'' : List X) (moved back : ℕ) → l' ++ r' ≡ l ++ r → length l' + moved ≡ length l → l'' ++ r'' ≡ l' ++ r' → length r'' + back ≡ length r' → back ≡ moved → (l'' ≡ l) × (r'' ≡ r)
   undone_back l r l' r' l'' r'' moved back j m k n e =
       same_parts l'' r'' l r (k ∙ j) (omega (arith, m, n, e, ap length j, ap length k, length-append l' r', length-append l r, length-append l'' r''))
-
-module _ {M V : Type 0} (weight : M → ℕ) where
-  -- one more item's weight
-  pub load-more : (xs : List (M × V)) (n : ℕ) (y : M × V) → slice_get xs n ≡ Some y → load weight (take (n + 1) xs) ≡ load weight (take n xs) + weight y.0
-  load-more xs n y e =
-      let within = slice_get_within xs n y e in
-      let long : length (take n xs) ≡ n = length-take-le n xs (omega arith) in
-      let same : take (n + 1) xs ≡ take n xs ++ y ∷ [] =
-      ap (take (n + 1)) (sym (split_after xs n y e) ∙ sym (append_assoc (take n xs) (y ∷ []) (drop (n + 1) xs)))
-      ∙ take_at (take n xs ++ y ∷ []) (drop (n + 1) xs) (n + 1) (length-append (take n xs) (y ∷ []) ∙ omega arith) in
-      omega (arith, ap (load weight) same, load-append weight (take n xs) (y ∷ []))
-
-  pub load-take : (xs : List (M × V)) (n : ℕ) → load weight (take n xs) ≤ load weight xs
-  load-take [] zero = omega arith
-  load-take [] (suc n) = omega arith
-  load-take (x ∷ xs) zero = omega arith
-  load-take (x ∷ xs) (suc n) = omega (arith, load-take xs n)
-
--- there is an element at each place of a list
-pub some_at : {X : Type 0} (xs : List X) (n : ℕ) → n < length xs → (y : X) × (slice_get xs n ≡ Some y)
-some_at [] n h = absurd (omega arith)
-some_at (x ∷ xs) zero h = (x, refl)
-some_at (x ∷ xs) (suc n) h = some_at xs n (omega arith)

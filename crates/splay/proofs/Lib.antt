@@ -7,8 +7,9 @@ pub mod Zip
 pub mod Climb
 pub mod Walk
 pub mod WalkSums
-pub mod JoinLemmas
-pub mod JoinCalls
+pub mod RootLemmas
+pub mod RootCalls
 pub mod ChangeCalls
 pub mod SplayLemmas
+pub mod OrderLemmas
 pub mod CutLemmas

@@ -6,7 +6,7 @@ use Rattle.splay.specs.Tree.{NIL, Tree, Leaf, Fork, Top, flat, root_of}
 use Rattle.splay.specs.Nodes.{item_at, tally_at, sum_of, Represents, Zipped, first_of}
 use Rattle.splay.specs.Sums.{count_in}
 use Rattle.splay.specs.Places.{IsNodeAt, IsSumBefore, IsTree}
-use Rattle.splay.specs.Joins.{Occupies, IsBesideSingle}
+use Rattle.splay.specs.Roots.{Occupies, IsBesideSingle}
 use Rattle.splay.specs.Changes.{Inserts, HasItem, Removes, Looks}
 use Rattle.splay.specs.Reads.{HasCount, HasItemAt, HasSumBefore}
 use Rattle.splay.specs.Splay.{tree_at, tree_of, items_of, IsSound}

@@ -3,7 +3,8 @@ pub mod Tree
 pub mod Nodes
 pub mod Sums
 pub mod Places
-pub mod Joins
+pub mod Order
+pub mod Roots
 pub mod Splay
 pub mod Changes
 pub mod Reads

@@ -1,18 +1,85 @@
 //! Items put into a tree, taken out of it and searched for, each by a splay at the place.
+ghost use Rattle.std.specs.Prelude.{◌≡◌, ℕ, ◌+◌, ◌-◌, ◌<◌, ◌≤◌, ◌^◌, ◌∷◌, ◌++◌, length, take, drop, slice_get, Some, OnOk, OnErr, IfErr, IsOk};
+ghost use Rattle.splay.specs.Items.{load, PassesUpTo};
 ghost use Rattle.splay.specs.Places.{IsTree};
-ghost use Rattle.splay.specs.Joins.{IsBesideSingle};
+ghost use Rattle.splay.specs.Roots.{IsBesideSingle};
 ghost use Rattle.splay.specs.Changes.{Inserts, HasItem, Removes, Looks};
 
-use crate::join::{Taken, crown_before, crown_behind, glue, take_out};
 use crate::measure::{Measure, Seek};
+use crate::roots::{Taken, crown_before, crown_behind, glue, occupy, take_out};
 use crate::rotate::splay;
 use crate::seek::{Found, node_at, search};
+use crate::splay::Splay;
 use crate::steps::Steps;
 use crate::store::{NIL, Store, count_of};
 use std::sync::ledger::Ledger;
 
-/// Puts the single node at `x` into the tree with this root, before the item at `at` or behind all. It is the root then.
-pub(crate) fn insert<M: Measure, V, L: Ledger>(
+impl<M: Measure, V> Splay<M, V> {
+    /// The number of leading prefixes, from the first item's, whose sum passes.
+    pub fn find<S: Seek<M>, L: Ledger>(&mut self, seek: &S, steps: &mut Steps<L>) -> usize
+        ensures passes { PassesUpTo M.unit M.add (S.passes seek.now) self.old.items result }
+        ensures items { self.new.items ≡ self.old.items }
+        ensures spare { self.new.spare ≡ self.old.spare }
+    {
+        let found = look(&mut self.store, self.root, seek, steps);
+        self.root = found.last;
+        found.count
+    }
+
+    /// Takes out the item at a place. Its node is kept for a later insertion.
+    pub fn remove_at<L: Ledger>(&mut self, at: usize, steps: &mut Steps<L>) -> (M, V)
+        requires { at < length self.old.items }
+        ensures item { slice_get self.old.items at ≡ Some result }
+        ensures items { self.new.items ≡ take at self.old.items ++ drop (at + 1) self.old.items }
+        ensures spare { self.new.spare ≡ self.old.spare + 1 }
+    {
+        let removed = remove(&mut self.store, self.root, self.free, at, steps).unwrap();
+        let Removed {
+            measure,
+            value,
+            node,
+            root,
+        } = removed;
+        self.root = root;
+        self.free = node;
+        self.spare += 1;
+        (measure, value)
+    }
+}
+
+impl<M: Measure, V: Drop> Splay<M, V> {
+    /// Puts an item before the one at a place, or behind all. It takes memory only where no node is spare; the value comes back where there is none left.
+    pub fn insert_at<L: Ledger>(
+        &mut self,
+        at: usize,
+        measure: M,
+        value: V,
+        steps: &mut Steps<L>,
+    ) -> Result<(), V>
+        requires place { at ≤ length self.old.items }
+        requires few { length self.old.items < 2 ^ 24 }
+        requires light { load M.weight self.old.items + M.weight measure ≤ 2 ^ 62 }
+        ensures ok { OnOk result (self.new.items ≡ take at self.old.items ++ (measure, value) ∷ drop at self.old.items) }
+        ensures spare { OnOk result (self.new.spare ≡ self.old.spare - 1) }
+        ensures err { OnErr result ((self.new.items ≡ self.old.items) × (self.new.spare ≡ self.old.spare)) }
+        ensures back { IfErr result (λ v. v ≡ value) }
+        ensures spared { 1 ≤ self.old.spare → IsOk result }
+    {
+        match occupy(&mut self.store, self.free, measure, value, steps) {
+            Ok(slot) => {
+                insert(&mut self.store, self.root, slot.at, at, steps);
+                self.root = slot.at;
+                self.free = slot.free;
+                self.spare = self.spare.saturating_sub(1);
+                Ok(())
+            }
+            Err(value) => Err(value),
+        }
+    }
+}
+
+// Puts the single node at `x` into the tree with this root, before the item at `at` or behind all. It is the root then.
+fn insert<M: Measure, V, L: Ledger>(
     store: &mut Store<M, V>,
     root: u32,
     x: u32,
@@ -40,8 +107,8 @@ pub(crate) struct Removed<M, V> {
     pub root: u32,
 }
 
-/// Takes the item at `at` out of the tree with this root. Its node is spare then, ahead of `free`.
-pub(crate) fn remove<M: Measure, V, L: Ledger>(
+// Takes the item at `at` out of the tree with this root. Its node is spare then, ahead of `free`.
+fn remove<M: Measure, V, L: Ledger>(
     store: &mut Store<M, V>,
     root: u32,
     free: u32,
@@ -73,8 +140,8 @@ pub(crate) fn remove<M: Measure, V, L: Ledger>(
     }
 }
 
-/// Searches the tree with this root, and splays at the last node that was visited. Answers the new root.
-pub(crate) fn look<M: Measure, V, S: Seek<M>, L: Ledger>(
+// Searches the tree with this root, and splays at the last node that was visited. Answers the new root.
+fn look<M: Measure, V, S: Seek<M>, L: Ledger>(
     store: &mut Store<M, V>,
     root: u32,
     seek: &S,

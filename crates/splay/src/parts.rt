@@ -27,7 +27,7 @@ pub(crate) fn behind<M: Measure>(before: Option<M>, tally: Option<Tally<M>>) -> 
     }
 }
 
-/// The tally of a subtree and of an item behind it.
+// The tally of a subtree and of an item behind it.
 fn followed<M: Measure>(left: Option<Tally<M>>, own: &M) -> Tally<M>
     requires light { weight_of_part M.weight left + M.weight own.now ≤ 2 ^ 62 }
     requires few { count_in left + 1 < 2 ^ 32 }
@@ -47,7 +47,7 @@ fn followed<M: Measure>(left: Option<Tally<M>>, own: &M) -> Tally<M>
 }
 
 /// The tally of two subtrees and of the item between them.
-pub(crate) fn joined<M: Measure>(
+pub(crate) fn tally_between<M: Measure>(
     left: Option<Tally<M>>,
     own: &M,
     right: Option<Tally<M>>,

@@ -5,12 +5,12 @@ ghost use Rattle.splay.specs.Nodes.{link_at};
 ghost use Rattle.splay.specs.Places.{IsNode, Stands, LiftsLeft, LiftsRight, Rises, RisesToTop, IsTop};
 
 use crate::measure::Measure;
-use crate::parts::joined;
+use crate::parts::tally_between;
 use crate::steps::Steps;
 use crate::store::{Link, Store};
 use std::sync::ledger::Ledger;
 
-/// Lifts the node at `x` above its parent, whose left child it is.
+// Lifts the node at `x` above its parent, whose left child it is.
 fn lift_left<M: Measure, V, L: Ledger>(
     store: &mut Store<M, V>,
     x: u32,
@@ -27,7 +27,7 @@ fn lift_left<M: Measure, V, L: Ledger>(
     let y = low.parent;
     let moved = store.tally(low.right, steps);
     let beside = store.tally(high.right, steps);
-    let below = joined(moved, &high.own, beside);
+    let below = tally_between(moved, &high.own, beside);
     store.set_parent(low.right, y);
     store.put(
         y,
@@ -52,7 +52,7 @@ fn lift_left<M: Measure, V, L: Ledger>(
     store.set_child(high.parent, y, x, steps);
 }
 
-/// Lifts the node at `x` above its parent, whose right child it is.
+// Lifts the node at `x` above its parent, whose right child it is.
 fn lift_right<M: Measure, V, L: Ledger>(
     store: &mut Store<M, V>,
     x: u32,
@@ -69,7 +69,7 @@ fn lift_right<M: Measure, V, L: Ledger>(
     let y = low.parent;
     let beside = store.tally(high.left, steps);
     let moved = store.tally(low.left, steps);
-    let below = joined(beside, &high.own, moved);
+    let below = tally_between(beside, &high.own, moved);
     store.set_parent(low.left, y);
     store.put(
         y,
@@ -94,7 +94,7 @@ fn lift_right<M: Measure, V, L: Ledger>(
     store.set_child(high.parent, y, x, steps);
 }
 
-/// Lifts the node at `x` above its parent, if it has one.
+// Lifts the node at `x` above its parent, if it has one.
 fn lift<M: Measure, V, L: Ledger>(store: &mut Store<M, V>, x: u32, steps: &mut Steps<L>)
     requires { IsNode M.unit M.add M.weight store.old x }
     ensures left { LiftsLeft M.unit M.add M.weight store.old store.new x }
@@ -113,7 +113,7 @@ fn lift<M: Measure, V, L: Ledger>(store: &mut Store<M, V>, x: u32, steps: &mut S
     }
 }
 
-/// Takes the node at `x` up by two levels, or by one below the root. False where it is the root.
+// Takes the node at `x` up by two levels, or by one below the root. False where it is the root.
 fn climb<M: Measure, V, L: Ledger>(store: &mut Store<M, V>, x: u32, steps: &mut Steps<L>) -> bool
     requires { IsNode M.unit M.add M.weight store.old x }
     ensures rises { result ≡ true → Rises M.unit M.add M.weight store.old store.new x }

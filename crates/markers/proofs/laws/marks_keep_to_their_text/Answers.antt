@@ -1,4 +1,4 @@
-use Rattle.markers.proofs.TextLemmas.{splice_in_is, splice_within, marks_moved}
+use Rattle.points.proofs.MarkTextLemmas.{splice_in_is, splice_within, marks_moved}
 use Rattle.markers.proofs.laws.marks_keep_to_their_text.Goals as goal
 
 pub returns-clause-splice : goal.returns-clause-splice

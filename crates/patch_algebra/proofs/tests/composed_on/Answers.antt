@@ -3,4 +3,4 @@ use Rattle.patch.specs.Fit.{Fits}
 use Rattle.patch_algebra.proofs.tests.composed_on.Goals as goal
 
 pub compose-requires : goal.compose-requires
-compose-requires c = (c.args.text.now, record { first = c.in_ok-between.ensures.fits; second = subst (λ (t : List ℕ). Fits c.args.second.now t) c.in_ok-between.ensures.made (c.fits.ensures.0 c.if-fits.true) })
+compose-requires c = (c.args.text.now, record { first = c.in_ok-between.ensures.fits; second = subst (λ (t : List ℕ). Fits c.args.second.now.changes t) c.in_ok-between.ensures.made (c.fits.ensures.0 c.if-fits.true) })

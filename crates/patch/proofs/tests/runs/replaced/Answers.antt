@@ -2,7 +2,7 @@ use Rattle.std.proofs.Common.{◌-◌, ◌++◌, ℕ, List, Option, length, map,
 use Rattle.std.proofs.lemmas.List.{map-append, append-nil, take-map, drop-map, take_all}
 use Rattle.patch.specs.Tagged.{Tagged, untagged}
 use Rattle.patch.specs.declared.tests.runs.Tag.{Tag}
-use Rattle.patch.proofs.CoverSteps.{slice_rest}
+use Rattle.patch.proofs.AbsorbSteps.{slice_rest}
 use Rattle.patch.proofs.tests.runs.replaced.Goals as goal
 
 pub loop-unit-init : goal.loop-unit-init

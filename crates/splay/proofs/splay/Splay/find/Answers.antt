@@ -14,8 +14,10 @@ returns-clause-passes g c =
     subst (λ xs. PassesUpTo g.M.Measure.unit g.M.Measure.add (g.S.Seek.passes c.args.seek.now) xs c.look-found.result.count) v
     (looked g.M.Measure.unit g.M.Measure.add g.M.Measure.weight c.self.inside.store c.look-found.new.store c.self.inside.root c.self.inside.free c.self.inside.spare c.look-found.result.count c.look-found.result.last (g.S.Seek.passes c.args.seek.now) c.self.invariant c.look-found.ensures).0
 
-pub returns-clause-same : goal.returns-clause-same
-returns-clause-same g c =
-    ap (λ xs. record { items = xs; spare = c.self.inside.spare })
+pub returns-clause-items : goal.returns-clause-items
+returns-clause-items g c =
     (looked g.M.Measure.unit g.M.Measure.add g.M.Measure.weight c.self.inside.store c.look-found.new.store c.self.inside.root c.self.inside.free c.self.inside.spare c.look-found.result.count c.look-found.result.last (g.S.Seek.passes c.args.seek.now) c.self.invariant c.look-found.ensures).2
-    ∙ c.self.view_is
+    ∙ ap (λ (k : Items g.row.M.Denot g.row.V.Denot). k.items) c.self.view_is
+
+pub returns-clause-spare : goal.returns-clause-spare
+returns-clause-spare g c = ap (λ (k : Items g.row.M.Denot g.row.V.Denot). k.spare) c.self.view_is

@@ -1,7 +1,0 @@
-use Rattle.std.proofs.Common.{take}
-use Rattle.std.specs.List.{All}
-use Rattle.points.specs.MarkList.{MarkIsWithin, all_moved}
-use Rattle.markers.proofs.fits.fits.Given as goal
-
-abbrev pub invariant-loop-mark : goal.invariant-loop-mark
-invariant-loop-mark l = All (MarkIsWithin 1073741824) (all_moved l.splice (take l.mark-index l.marks))
