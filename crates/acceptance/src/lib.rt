@@ -8,6 +8,8 @@
 #[cfg(test)]
 mod line_text_tests;
 #[cfg(test)]
+mod machine_tests;
+#[cfg(test)]
 mod markers_tests;
 #[cfg(test)]
 mod outer_tests;

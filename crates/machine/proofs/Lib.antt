@@ -4,3 +4,6 @@ pub mod Bare
 pub mod History
 pub mod Forms
 pub mod OneSession
+pub mod InOrder
+pub mod Sides
+pub mod OnlyPlain
