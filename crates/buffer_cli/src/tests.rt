@@ -1,5 +1,4 @@
-ghost use Rattle.std.specs.Prelude.{◌≡◌, vec_len, IfOk};
-
+//! The top call over sources and sinks in memory, the adapters over readers and writers, and the lines of the statuses.
 use crate::adapters::{Reading, Writing};
 use crate::document::Document;
 use crate::{Status, run_script};
@@ -19,10 +18,10 @@ const HI_TRANSCRIPT: &str =
     "{\"end\":{\"count\":2,\"text\":\"hi\"},\"sessions\":[[{\"at\":1,\"end\":[0,2],\"from\":[0,0],\"hits\":[0,0,0,0],\"to\":[0,0]},{\"at\":2,\"text\":\"hi\",\"units\":2}]],\"version\":1}\n";
 
 /// This many bytes of one value.
-fn repeated(alloc: Global, byte: u8, count: usize) -> Result<Vec<u8>, AllocError>
-    ensures { IfOk result (λ v. vec_len v ≡ count) }
-{
-    vec![in alloc; byte; count]
+fn repeated(alloc: Global, byte: u8, count: usize) -> Result<Vec<u8>, AllocError> {
+    let mut bytes = vec![in alloc; 0u8; count]?;
+    bytes.as_mut_slice().fill(byte);
+    Ok(bytes)
 }
 
 fn words(alloc: Global, list: &[&str]) -> Result<Vec<String>, AllocError> {
