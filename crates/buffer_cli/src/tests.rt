@@ -11,11 +11,12 @@ use std::io;
 use std::test::Fail;
 
 /// The script of the program's stored run, and its transcript.
-const HI: &str =
-    "{\"version\":1,\"open\":{\"text\":\"\"},\"sessions\":[[{\"do\":\"edit\",\"range\":[0,0,0,0],\"text\":\"hi\"},{\"do\":\"text\",\"range\":[0,0,9,9],\"limit\":100}]]}";
+const HI: &str = r#"{"version":1,"open":{"text":""},"sessions":[[
+    {"do":"edit","range":[0,0,0,0],"text":"hi"},{"do":"text","range":[0,0,9,9],"limit":100}]]}"#;
 
-const HI_TRANSCRIPT: &str =
-    "{\"end\":{\"count\":2,\"text\":\"hi\"},\"sessions\":[[{\"at\":1,\"end\":[0,2],\"from\":[0,0],\"hits\":[0,0,0,0],\"to\":[0,0]},{\"at\":2,\"text\":\"hi\",\"units\":2}]],\"version\":1}\n";
+const HI_TRANSCRIPT: &str = "{\"end\":{\"count\":2,\"text\":\"hi\"},\"sessions\":[[\
+    {\"at\":1,\"end\":[0,2],\"from\":[0,0],\"hits\":[0,0,0,0],\"to\":[0,0]},\
+    {\"at\":2,\"text\":\"hi\",\"units\":2}]],\"version\":1}\n";
 
 /// This many bytes of one value.
 fn repeated(alloc: Global, byte: u8, count: usize) -> Result<Vec<u8>, AllocError> {
@@ -61,26 +62,34 @@ fn runs_scripts(rt: HostRuntime) -> Result<(), Fail> {
         (HI, HI_TRANSCRIPT),
         // clips inside CR LF
         (
-            "{\"version\":1,\"open\":{\"text\":\"a\\r\\nb\"},\"sessions\":[[{\"do\":\"edit\",\"range\":[0,2,0,2],\"text\":\"x\"}]]}",
-            "{\"end\":{\"count\":1,\"text\":\"ax\\r\\nb\"},\"sessions\":[[{\"at\":1,\"end\":[0,2],\"from\":[0,1],\"hits\":[0,0,0,0],\"to\":[0,1]}]],\"version\":1}\n",
+            r#"{"version":1,"open":{"text":"a\r\nb"},"sessions":[[
+                {"do":"edit","range":[0,2,0,2],"text":"x"}]]}"#,
+            "{\"end\":{\"count\":1,\"text\":\"ax\\r\\nb\"},\"sessions\":[[\
+                {\"at\":1,\"end\":[0,2],\"from\":[0,1],\"hits\":[0,0,0,0],\"to\":[0,1]}]],\"version\":1}\n",
         ),
         // clips inside a surrogate pair
         (
-            "{\"version\":1,\"open\":{\"text\":\"\\ud83d\\ude00\"},\"sessions\":[[{\"do\":\"edit\",\"range\":[0,1,0,1],\"text\":\"x\"}]]}",
-            "{\"end\":{\"count\":1,\"text\":\"x\u{1F600}\"},\"sessions\":[[{\"at\":1,\"end\":[0,1],\"from\":[0,0],\"hits\":[0,0,0,0],\"to\":[0,0]}]],\"version\":1}\n",
+            r#"{"version":1,"open":{"text":"\ud83d\ude00"},"sessions":[[
+                {"do":"edit","range":[0,1,0,1],"text":"x"}]]}"#,
+            "{\"end\":{\"count\":1,\"text\":\"x\u{1F600}\"},\"sessions\":[[\
+                {\"at\":1,\"end\":[0,1],\"from\":[0,0],\"hits\":[0,0,0,0],\"to\":[0,0]}]],\"version\":1}\n",
         ),
         // a range past the end replaces everything
         (
-            "{\"version\":1,\"open\":{\"text\":\"ab\\ncd\"},\"sessions\":[[{\"do\":\"edit\",\"range\":[0,0,9,9],\"text\":\"z\"}]]}",
-            "{\"end\":{\"count\":1,\"text\":\"z\"},\"sessions\":[[{\"at\":1,\"end\":[0,1],\"from\":[0,0],\"hits\":[0,0,0,0],\"to\":[1,2]}]],\"version\":1}\n",
+            r#"{"version":1,"open":{"text":"ab\ncd"},"sessions":[[
+                {"do":"edit","range":[0,0,9,9],"text":"z"}]]}"#,
+            "{\"end\":{\"count\":1,\"text\":\"z\"},\"sessions\":[[\
+                {\"at\":1,\"end\":[0,1],\"from\":[0,0],\"hits\":[0,0,0,0],\"to\":[1,2]}]],\"version\":1}\n",
         ),
         // an empty edit of an empty range, and a script with no commands
         (
-            "{\"version\":1,\"open\":{\"text\":\"ab\"},\"sessions\":[[{\"do\":\"edit\",\"range\":[0,1,0,1],\"text\":\"\"}]]}",
-            "{\"end\":{\"count\":1,\"text\":\"ab\"},\"sessions\":[[{\"at\":1,\"end\":[0,1],\"from\":[0,1],\"hits\":[0,0,0,0],\"to\":[0,1]}]],\"version\":1}\n",
+            r#"{"version":1,"open":{"text":"ab"},"sessions":[[
+                {"do":"edit","range":[0,1,0,1],"text":""}]]}"#,
+            "{\"end\":{\"count\":1,\"text\":\"ab\"},\"sessions\":[[\
+                {\"at\":1,\"end\":[0,1],\"from\":[0,1],\"hits\":[0,0,0,0],\"to\":[0,1]}]],\"version\":1}\n",
         ),
         (
-            "{\"version\":1,\"open\":{\"text\":\"ab\"},\"sessions\":[[]]}",
+            r#"{"version":1,"open":{"text":"ab"},"sessions":[[]]}"#,
             "{\"end\":{\"count\":0,\"text\":\"ab\"},\"sessions\":[[]],\"version\":1}\n",
         ),
     ];
@@ -127,7 +136,7 @@ fn refused(why: ScriptRule) -> Status {
 fn answers_each_fault(rt: HostRuntime) -> Result<(), Fail> {
     let cases = [
         (HI, (1, 0), Status::ReadFault, 0),
-        ("{\"version\":1,", (0, 0), refused(ScriptRule::NotJson), 0),
+        (r#"{"version":1,"#, (0, 0), refused(ScriptRule::NotJson), 0),
         ("", (0, 0), refused(ScriptRule::NotJson), 0),
         ("{}", (0, 0), refused(ScriptRule::BadShape), 0),
         (HI, (0, 1), Status::WriteFault, 0),

@@ -3,7 +3,7 @@ use Rattle.std.proofs.Common.{◌≡◌, suc, Bool, true, false, List, [], ◌�
 use Rattle.std.proofs.Math.Bool.{Bool-set}
 use Rattle.points.specs.declared.point.Point.{Point}
 use Rattle.points.specs.Point.{point_le}
-use Rattle.script.specs.ScriptDocument.{count_members, member_count, count_items, item_count, range_by, range_between}
+use Rattle.script.specs.Parts.{count_members, member_count, count_items, item_count, range_by, range_between}
 use Rattle.serde_json.specs.Data.{Data, null, boolean, number, string, array, object}
 use Rattle.serde_json.specs.Find.{as_array, as_object}
 use Rattle.serde_json.specs.View.{items_view, members_view}

@@ -1,4 +1,4 @@
--- Reading and writing lists item by item, and counting the units of a text character by character.
+-- Reading lists item by item, and counting the units of a text character by character.
 use Rattle.std.proofs.Common.{◌≡◌, ℕ, ◌+◌, ◌≤◌, List, [], ◌∷◌, ◌++◌, length, map, Option, option_map, refl, ap, ◌∙◌, arith, length-append}
 use Rattle.std.specs.Char.Escape.{encode_utf16}
 use Rattle.std.specs.Str.{IsUtf8, chars}
@@ -7,29 +7,13 @@ use Rattle.std.proofs.lemmas.Bool.Decides.{nat_tests}
 use Rattle.std.proofs.lemmas.List.Concat.{flat_map-cons}
 use Rattle.std.proofs.lemmas.Str.{chars-nil, chars_past_char, encodes-chars, length-encode}
 use Rattle.points.specs.Text.{utf16, utf16_of}
-use Rattle.script.specs.declared.command.Command.{Command}
-use Rattle.script.specs.declared.reply.Reply.{Reply}
-use Rattle.script.specs.TranscriptDocument.{reply_value, replies_items, sessions_items}
-use Rattle.serde_json.specs.Data.{array, item}
-use Rattle.serde_json.specs.View.{items_of}
+use Rattle.machine.specs.declared.command.Command.{Command}
 
 -- ---- commands
 
 -- the commands that were read before, and those that are still read
 abbrev pub with_front : List Command → Option (List Command) → Option (List Command)
 with_front front read = option_map (λ cs. front ++ cs) read
-
--- ---- replies
-
--- the items of a list of replies are their values
-pub replies_items-map : (rs : List Reply) → replies_items rs ≡ items_of (map reply_value rs)
-replies_items-map [] = refl
-replies_items-map (r ∷ rs) = ap (item (reply_value r)) (replies_items-map rs)
-
--- the items of a list of sessions are the lists of their replies' values
-pub sessions_items-map : (sessions : List (List Reply)) → sessions_items sessions ≡ items_of (map (λ rs. array (replies_items rs)) sessions)
-sessions_items-map [] = refl
-sessions_items-map (rs ∷ rest) = ap (item (array (replies_items rs))) (sessions_items-map rest)
 
 -- ---- units
 

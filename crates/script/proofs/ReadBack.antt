@@ -1,5 +1,5 @@
 -- The text of a transcript reads back as the transcript's value.
-use Rattle.std.proofs.Common.{◌≡◌, ◌≤◌, ℕ, List, [], ◌∷◌, ◌++◌, Bool, true, false, cond, ◌&&◌, Some, option_and_then, IsUtf8, refl, sym, ap, ap₂, ◌∙◌, arith, append_assoc, append-nil, subst}
+use Rattle.std.proofs.Common.{◌≡◌, ◌≤◌, ℕ, List, [], ◌∷◌, ◌++◌, map, Bool, true, false, cond, ◌&&◌, Some, option_and_then, IsUtf8, refl, sym, ap, ap₂, ◌∙◌, arith, append_assoc, append-nil, subst}
 use Rattle.std.proofs.lemmas.Str.{IsUtf8-append}
 use Rattle.json.specs.Token.{Token, begin_object, end_object, begin_array, end_array, key, string, number, boolean, null, bad}
 use Rattle.json.specs.Word.{ends_word, word}
@@ -12,33 +12,42 @@ use Rattle.json.proofs.Printed.Numbers.{lex-number, in_word-ended}
 use Rattle.json.proofs.Printed.Strings.{content-escape, lex-escape}
 use Rattle.json.proofs.Printed.Trees.{value-json_tokens, ArePrintable-json_tokens}
 use Rattle.json.proofs.Printed.Utf8.{IsUtf8-are_ascii}
-use Rattle.script.specs.declared.reply.Reply.{Reply}
-use Rattle.script.specs.declared.reply.Reply.TheVariants as reply
-use Rattle.script.specs.declared.reply.Transcript.{Transcript}
+use Rattle.machine.specs.declared.reads.ReadAnswer.{ReadAnswer}
+use Rattle.machine.specs.declared.reads.ReadAnswer.TheVariants as answer
+use Rattle.machine.specs.declared.reply.Reply.{Reply}
+use Rattle.machine.specs.declared.reply.Reply.TheVariants as reply
+use Rattle.machine.specs.declared.reply.Transcript.{Transcript}
 use Rattle.script.specs.ScriptDocument.{document}
-use Rattle.script.specs.TranscriptDocument.{reply_value, replies_items, sessions_items, transcript_value}
+use Rattle.script.specs.TranscriptDocument.{whole, span_value, part_value, answer_value, reply_value, replies_value, transcript_value}
 use Rattle.script.proofs.Documents.{document_is}
 use Rattle.serde_json.specs.Data.{Data, depth, items_depth}
 use Rattle.serde_json.specs.Read.{read, max_depth, of_json}
+use Rattle.serde_json.specs.View.{items_of}
 use Rattle.serde_json.specs.Written.{IsInOrder}
 
 -- ---- how deep the value of a transcript is
 
-reply_value-depth : (r : Reply) → depth (reply_value r) ≤ 2
-reply_value-depth (reply.Edited at end from hits to) = omega arith
-reply_value-depth (reply.Text at text units) = omega arith
-reply_value-depth (reply.Refused at refusal) = omega arith
+list-depth : {A : Type 0} (value : A → Data) (n : ℕ) → ((x : A) → depth (value x) ≤ n) → (xs : List A) → items_depth (items_of (map value xs)) ≤ n
+list-depth value n each [] = omega arith
+list-depth value n each (x ∷ xs) = omega (arith, each x, list-depth value n each xs)
 
-replies_items-depth : (rs : List Reply) → items_depth (replies_items rs) ≤ 2
-replies_items-depth [] = omega arith
-replies_items-depth (r ∷ rs) = omega (arith, reply_value-depth r, replies_items-depth rs)
+answer-depth : (a : ReadAnswer) → depth (answer_value a) ≤ 3
+answer-depth (answer.Size extent units) = omega arith
+answer-depth (answer.Text text units) = omega arith
+answer-depth (answer.Found count hits) = omega (arith, list-depth span_value 1 (λ s. omega arith) hits)
+answer-depth (answer.Saved bytes) = omega arith
 
-sessions_items-depth : (sessions : List (List Reply)) → items_depth (sessions_items sessions) ≤ 3
-sessions_items-depth [] = omega arith
-sessions_items-depth (rs ∷ rest) = omega (arith, replies_items-depth rs, sessions_items-depth rest)
+reply-depth : (r : Reply) → depth (reply_value r) ≤ 5
+reply-depth (reply.Batched at edits) = omega (arith, list-depth part_value 2 (λ p. omega arith) edits)
+reply-depth (reply.Marks at ids) = omega (arith, list-depth whole 0 (λ n. omega arith) ids)
+reply-depth (reply.Answered answers) = omega (arith, list-depth answer_value 3 answer-depth answers)
+reply-depth r = omega arith
+
+replies-depth : (rs : List Reply) → depth (replies_value rs) ≤ 6
+replies-depth rs = omega (arith, list-depth reply_value 5 reply-depth rs)
 
 transcript_value-depth : (t : Transcript) → depth (transcript_value t) ≤ max_depth
-transcript_value-depth t = omega (arith, sessions_items-depth t.sessions)
+transcript_value-depth t = omega (arith, list-depth replies_value 6 replies-depth t.sessions)
 
 -- ---- a printed text has the same lexemes with white space behind it
 

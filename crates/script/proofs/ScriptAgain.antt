@@ -1,19 +1,25 @@
--- A script that breaks no rule is read again from its JSON value.
-use Rattle.std.proofs.Common.{◌≡◌, ◌+◌, ◌≤◌, ℕ, List, [], ◌∷◌, length, true, Some, refl, arith}
+-- A script of what is built is read again from its JSON value.
+use Rattle.std.proofs.Common.{◌≡◌, ◌+◌, ◌≤◌, ℕ, List, [], ◌∷◌, length, map, true, is_some, Some, refl, arith}
 use Rattle.std.specs.List.{AllByRecursion}
-use Rattle.std.proofs.lemmas.Bool.{le-leb}
+use Rattle.std.proofs.lemmas.Bool.{le-leb, false≢true}
+use Rattle.points.specs.declared.limits.TheConstants.{MAX_COORD}
 use Rattle.points.specs.declared.point.Point.{Point}
 use Rattle.points.specs.declared.range.Range.{Range}
-use Rattle.script.specs.declared.command.Command.{Command}
-use Rattle.script.specs.declared.command.Command.TheVariants as command
-use Rattle.script.specs.declared.command.Opening.{Opening}
-use Rattle.script.specs.declared.command.Opening.TheVariants as opening
-use Rattle.script.specs.declared.command.Script.{Script}
-use Rattle.script.specs.Machine.{max_units, opening_units}
-use Rattle.script.specs.ScriptDocument.{within, coordinate, point_from, range_of, edit_of, look_of, command_of, commands_of, is_bounded, session_of, sessions_of, opening_of, script_of, max_coord, max_shown}
-use Rattle.script.specs.ScriptValue.{range_value, command_value, commands_items, scripts_items, opening_value, script_value, IsRangeWithin, IsCommandWithin, BreaksNoRule}
+use Rattle.machine.specs.declared.command.Command.{Command}
+use Rattle.machine.specs.declared.command.Command.TheVariants as command
+use Rattle.machine.specs.declared.command.Opening.{Opening}
+use Rattle.machine.specs.declared.command.Opening.TheVariants as opening
+use Rattle.machine.specs.declared.command.Script.{Script}
+use Rattle.machine.specs.Answers.{opening_text}
+use Rattle.script.specs.declared.limits.TheConstants.{MAX_SHOWN}
+use Rattle.script.specs.Parts.{within, coordinate, point_from, range_of}
+use Rattle.script.specs.ScriptDocument.{edit_of, look_of, command_of, commands_of, session_of, sessions_of, opening_of, reading}
+use Rattle.script.specs.ScriptValue.{range_value, command_value, session_value, opening_value, script_value}
+use Rattle.script.specs.TranscriptDocument.{list_value}
 use Rattle.script.proofs.Counting.{range_in_order}
+use Rattle.script.proofs.Readable.{IsRangeWithin, IsReadable, IsReadableScript}
 use Rattle.serde_json.specs.Data.{Data, array}
+use Rattle.serde_json.specs.View.{items_of}
 
 within_le : (limit n : ℕ) → n ≤ limit → within limit n ≡ Some n
 within_le limit n le = rw (le-leb n limit le)
@@ -21,39 +27,38 @@ within_le limit n le = rw (le-leb n limit le)
 point_again : (d : Data) (i : ℕ) (p : Point) → coordinate d i ≡ Some p.row → coordinate d (i + 1) ≡ Some p.column → point_from d i ≡ Some p
 point_again d i p row column = rw (row, column) refl
 
-range_again : (r : Range) → IsRangeWithin r → range_of (range_value r) ≡ Some r
+pub range_again : (r : Range) → IsRangeWithin r → range_of (range_value r) ≡ Some r
 unfolding range_of
 range_again r h =
-    let start = point_again (range_value r) 0 r.start (within_le max_coord r.start.row h.start.row) (within_le max_coord r.start.column h.start.column) in
-    let end = point_again (range_value r) 2 r.end (within_le max_coord r.end.row h.end.row) (within_le max_coord r.end.column h.end.column) in
+    let start = point_again (range_value r) 0 r.start (within_le MAX_COORD r.start.row h.start.row) (within_le MAX_COORD r.start.column h.start.column) in
+    let end = point_again (range_value r) 2 r.end (within_le MAX_COORD r.end.row h.end.row) (within_le MAX_COORD r.end.column h.end.column) in
     rw (start, end) (range_in_order r.start r.end r.ordered)
 
-command_again : (c : Command) → IsCommandWithin c → command_of (command_value c) ≡ Some c
+command_again : (c : Command) → IsReadable c → command_of (command_value c) ≡ Some c
 unfolding command_of edit_of look_of
 command_again (command.Edit range text) h = rw (range_again range h) refl
-command_again (command.Text range limit) h = rw (range_again range h.0, le-leb limit max_shown h.1) refl
+command_again (command.Text range limit) h = rw (range_again range h.0, le-leb limit MAX_SHOWN h.1) refl
+command_again c h = absurd h
 
-commands_again : (cs : List Command) → AllByRecursion IsCommandWithin cs → commands_of (commands_items cs) ≡ Some cs
+commands_again : (cs : List Command) → AllByRecursion IsReadable cs → commands_of (items_of (map command_value cs)) ≡ Some cs
 commands_again [] h = refl
 commands_again (c ∷ cs) h = rw (command_again c h.0, commands_again cs h.1) refl
 
-session_again : (cs : List Command) → AllByRecursion IsCommandWithin cs → is_bounded cs ≡ true → session_of (array (commands_items cs)) ≡ Some cs
+session_again : (cs : List Command) → AllByRecursion IsReadable cs → session_of (session_value cs) ≡ Some cs
 unfolding session_of
-session_again cs h bounded = rw (commands_again cs h, bounded) refl
+session_again cs h = commands_again cs h
 
-sessions_again : (sessions : List (List Command)) → length sessions ≡ 1 → AllByRecursion (AllByRecursion IsCommandWithin) sessions → AllByRecursion (λ cs. is_bounded cs ≡ true) sessions
-    → sessions_of (array (scripts_items sessions)) ≡ Some sessions
+sessions_again : (sessions : List (List Command)) → length sessions ≡ 1 → AllByRecursion (AllByRecursion IsReadable) sessions → sessions_of (list_value session_value sessions) ≡ Some sessions
 unfolding sessions_of
-sessions_again [] one h bounded = absurd (omega arith)
-sessions_again (cs ∷ []) one h bounded = rw (session_again cs h.0 bounded.0) refl
-sessions_again (cs ∷ ds ∷ rest) one h bounded = absurd (omega arith)
+sessions_again [] one h = absurd (omega arith)
+sessions_again (cs ∷ []) one h = rw (session_again cs h.0) refl
+sessions_again (cs ∷ ds ∷ rest) one h = absurd (omega arith)
 
-opening_again : (o : Opening) → length (opening_units o) ≤ max_units → opening_of (opening_value o) ≡ Some o
+opening_again : (o : Opening) → is_some (opening_text o) ≡ true → opening_of (opening_value o) ≡ Some o
 unfolding opening_of
-opening_again (opening.Text text) h = rw (le-leb _ max_units h) refl
+opening_again (opening.Text text) h = refl
+opening_again (opening.File name encoding) h = absurd (false≢true h)
 
-pub script_again : (s : Script) → BreaksNoRule s → script_of (script_value s) ≡ Some s
-unfolding script_of
-script_again s h =
-    let sessions = sessions_again s.sessions h.limits.one h.commands h.limits.commands in
-    rw (h.limits.version, opening_again s.opening h.limits.opening, sessions) refl
+pub reading_again : (s : Script) → IsReadableScript s → reading (script_value s) ≡ Some s
+unfolding reading
+reading_again s h = rw (h.version, opening_again s.opening h.opening, sessions_again s.sessions h.one h.commands) refl

@@ -1,5 +1,5 @@
 -- What is read as a script is that script's JSON value.
-use Rattle.std.proofs.Common.{◌≡◌, ◌+◌, ◌≤◌, ℕ, List, [], ◌∷◌, Bool, true, false, cond, Option, Some, None, option_map, option_and_then, refl, sym, ap, ap₂, subst, ◌∙◌, ◌⊎◌, inl, inr, arith}
+use Rattle.std.proofs.Common.{◌≡◌, ◌+◌, ◌≤◌, ℕ, List, [], ◌∷◌, length, map, Bool, true, false, cond, Option, Some, None, option_map, option_and_then, refl, sym, ap, ap₂, subst, ◌∙◌, ◌⊎◌, inl, inr, arith}
 use Rattle.std.specs.Prelude.{codes, is_some, nat_le, ◌==◌, ◌&&◌}
 use Rattle.std.specs.List.{AllByRecursion}
 use Rattle.std.proofs.lemmas.Bool.{leb-true, eqb-true, and_parts, true≢false}
@@ -8,18 +8,25 @@ use Rattle.std.proofs.lemmas.Slice.Eq.{bytes_eq-Decides}
 use Rattle.points.specs.declared.point.Point.{Point}
 use Rattle.points.specs.declared.range.Range.{Range}
 use Rattle.points.specs.Point.{point_le, IsWithin}
-use Rattle.script.specs.declared.command.Command.{Command}
-use Rattle.script.specs.declared.command.Command.TheVariants as command
-use Rattle.script.specs.declared.command.Opening.{Opening}
-use Rattle.script.specs.declared.command.Opening.TheVariants as opening
-use Rattle.script.specs.declared.command.Script.{Script}
-use Rattle.script.specs.ScriptDocument.{member_count, item_count, string_in, whole_of, whole_in, coordinate, point_from, range_by, range_between, range_of, range_in, edit_of, look_of, command_of, commands_of, is_word, bounded, is_bounded, session_of, sessions_of, opened_by, opening_of, is_version_one, is_one, script_of, max_coord, max_shown}
-use Rattle.script.specs.ScriptValue.{range_value, command_value, commands_items, scripts_items, opening_value, script_value, IsRangeWithin, IsCommandWithin, BreaksNoRule}
-use Rattle.script.specs.TranscriptDocument.{whole}
+use Rattle.machine.specs.declared.command.Command.{Command}
+use Rattle.machine.specs.declared.command.Command.TheVariants as command
+use Rattle.machine.specs.declared.command.Opening.{Opening}
+use Rattle.machine.specs.declared.command.Opening.TheVariants as opening
+use Rattle.machine.specs.declared.command.Script.{Script}
+use Rattle.points.specs.declared.limits.TheConstants.{MAX_COORD}
+use Rattle.machine.specs.Answers.{opening_text}
+use Rattle.script.specs.declared.limits.TheConstants.{MAX_SHOWN}
+use Rattle.script.specs.ScriptDocument.{edit_of, look_of, command_of, commands_of, session_of, sessions_of, opening_of, reading}
+use Rattle.script.specs.Parts.{member_count, item_count, string_in, whole_of, whole_in, coordinate, point_from, range_by, range_between, range_of, range_in, is_word}
+use Rattle.script.specs.Rules.{is_version_one, is_one}
+use Rattle.script.specs.ScriptValue.{range_value, command_value, session_value, opening_value, script_value}
+use Rattle.script.specs.TranscriptDocument.{whole, list_value}
 use Rattle.script.proofs.KeyLemmas.{Ascend, all_keys, three_members, one_member}
 use Rattle.script.proofs.KeyOrder.{IsInKeyOrder, ItemsInKeyOrder}
-use Rattle.script.proofs.LimitLemmas.{behind_map, value_within}
+use Rattle.script.proofs.LimitLemmas.{behind_map}
+use Rattle.script.proofs.Readable.{IsRangeWithin, IsReadable, IsReadableScript}
 use Rattle.serde_json.specs.Data.{Data, null, boolean, number, string, array, object, unsigned, negative, float, Items, no_items, item, no_members, member}
+use Rattle.serde_json.specs.View.{items_of}
 use Rattle.serde_json.specs.Find.{get, at, as_str, as_array, as_number, as_u64}
 
 -- a test that passed, and what stands behind it
@@ -32,7 +39,7 @@ some_there o x e = ap is_some e
 
 -- ---- numbers and strings
 
-whole_exact : (limit n : ℕ) (d : Data) → whole_of limit d ≡ Some n → (d ≡ whole n) × (n ≤ limit)
+pub whole_exact : (limit n : ℕ) (d : Data) → whole_of limit d ≡ Some n → (d ≡ whole n) × (n ≤ limit)
 whole_exact limit n null e = absurd (none-some n e)
 whole_exact limit n (boolean b) e = absurd (none-some n e)
 whole_exact limit n (number (unsigned m)) e =
@@ -115,14 +122,14 @@ one_of a (object ms) sorted n h =
 record IsPointFrom (a b : Data) (p : Point) : Type 0 where
   row : a ≡ whole p.row
   column : b ≡ whole p.column
-  within : IsWithin max_coord p
+  within : IsWithin MAX_COORD p
 
 point_exact : (d : Data) (i : ℕ) (a b : Data) (p : Point) → at i d ≡ Some a → at (i + 1) d ≡ Some b → point_from d i ≡ Some p → IsPointFrom a b p
 point_exact d i a b p first second e =
     option_and_then_some (λ row. option_map (λ column. record { row = row; column = column }) (coordinate d (i + 1))) (coordinate d i) p e (λ row row_is rest.
     behind_map (λ column. record { row = row; column = column }) (coordinate d (i + 1)) p rest (λ column column_is is.
-    let r = whole_exact max_coord row a (ap (option_and_then (whole_of max_coord)) (sym first) ∙ row_is) in
-    let c = whole_exact max_coord column b (ap (option_and_then (whole_of max_coord)) (sym second) ∙ column_is) in
+    let r = whole_exact MAX_COORD row a (ap (option_and_then (whole_of MAX_COORD)) (sym first) ∙ row_is) in
+    let c = whole_exact MAX_COORD column b (ap (option_and_then (whole_of MAX_COORD)) (sym second) ∙ column_is) in
     subst (IsPointFrom a b) is (record { row = r.0; column = c.0; within = record { row = r.1; column = c.1 } })))
 
 between_exact : (start end : Point) (b : Bool) (h : point_le start end ≡ b) (r : Range) → range_by start end b h ≡ Some r → (start ≡ r.start) × (end ≡ r.end)
@@ -132,7 +139,7 @@ between_exact start end false h r e = absurd (none-some r e)
 range_items : (a b c e : Data) (r : Range) → IsPointFrom a b r.start → IsPointFrom c e r.end → array (item a (item b (item c (item e no_items)))) ≡ range_value r
 range_items a b c e r start end = rw (start.row, start.column, end.row, end.column) refl
 
-range_exact : (d : Data) (r : Range) → range_of d ≡ Some r → (d ≡ range_value r) × IsRangeWithin r
+pub range_exact : (d : Data) (r : Range) → range_of d ≡ Some r → (d ≡ range_value r) × IsRangeWithin r
 unfolding range_of
 range_exact d r e =
     let t = test_some (item_count d == 4) _ r e in
@@ -163,36 +170,36 @@ edit_parts d range text parts word range_is text_is =
     let z = string_exact parts.third text (subst (λ v. string_in (codes "text") v ≡ Some text) parts.is text_is) in
     (three_made (codes "do") (codes "range") (codes "text") d parts _ _ _ x y.0 z, y.1)
 
-edit_exact : (d : Data) (c : Command) → IsInKeyOrder d → member_count d ≡ 3 → string_in (codes "do") d ≡ Some (codes "edit") → edit_of d ≡ Some c → (d ≡ command_value c) × IsCommandWithin c
+edit_exact : (d : Data) (c : Command) → IsInKeyOrder d → member_count d ≡ 3 → string_in (codes "do") d ≡ Some (codes "edit") → edit_of d ≡ Some c → (d ≡ command_value c) × IsReadable c
 unfolding edit_of
 edit_exact d c sorted n word e =
     option_and_then_some (λ range. option_map (command.Edit range) (string_in (codes "text") d)) (range_in d) c e (λ range range_is rest.
     behind_map (command.Edit range) (string_in (codes "text") d) c rest (λ text text_is is.
     let parts = three_of (codes "do") (codes "range") (codes "text") d ((refl, (refl, tt)), ((refl, tt), (tt, tt))) sorted n (there as_str _ _ word) (there range_of _ _ range_is) (there as_str _ _ text_is) in
-    subst (λ v. (d ≡ command_value v) × IsCommandWithin v) is (edit_parts d range text parts word range_is text_is)))
+    subst (λ v. (d ≡ command_value v) × IsReadable v) is (edit_parts d range text parts word range_is text_is)))
 
-look_parts : (d : Data) (range : Range) (limit : ℕ) (parts : IsThree (codes "do") (codes "limit") (codes "range") d) → string_in (codes "do") d ≡ Some (codes "text") → range_in d ≡ Some range → whole_in max_shown (codes "limit") d ≡ Some limit
-    → (d ≡ command_value (command.Text range limit)) × (IsRangeWithin range × (limit ≤ max_shown))
+look_parts : (d : Data) (range : Range) (limit : ℕ) (parts : IsThree (codes "do") (codes "limit") (codes "range") d) → string_in (codes "do") d ≡ Some (codes "text") → range_in d ≡ Some range → whole_in MAX_SHOWN (codes "limit") d ≡ Some limit
+    → (d ≡ command_value (command.Text range limit)) × (IsRangeWithin range × (limit ≤ MAX_SHOWN))
 look_parts d range limit parts word range_is limit_is =
     let x = string_exact parts.first (codes "text") (subst (λ v. string_in (codes "do") v ≡ Some (codes "text")) parts.is word) in
-    let y = whole_exact max_shown limit parts.second (subst (λ v. whole_in max_shown (codes "limit") v ≡ Some limit) parts.is limit_is) in
+    let y = whole_exact MAX_SHOWN limit parts.second (subst (λ v. whole_in MAX_SHOWN (codes "limit") v ≡ Some limit) parts.is limit_is) in
     let z = range_exact parts.third range (subst (λ v. range_in v ≡ Some range) parts.is range_is) in
     (three_made (codes "do") (codes "limit") (codes "range") d parts _ _ _ x y.0 z.0, (z.1, y.1))
 
-look_exact : (d : Data) (c : Command) → IsInKeyOrder d → member_count d ≡ 3 → string_in (codes "do") d ≡ Some (codes "text") → look_of d ≡ Some c → (d ≡ command_value c) × IsCommandWithin c
+look_exact : (d : Data) (c : Command) → IsInKeyOrder d → member_count d ≡ 3 → string_in (codes "do") d ≡ Some (codes "text") → look_of d ≡ Some c → (d ≡ command_value c) × IsReadable c
 unfolding look_of
 look_exact d c sorted n word e =
-    option_and_then_some (λ range. option_map (command.Text range) (whole_in max_shown (codes "limit") d)) (range_in d) c e (λ range range_is rest.
-    behind_map (command.Text range) (whole_in max_shown (codes "limit") d) c rest (λ limit limit_is is.
-    let parts = three_of (codes "do") (codes "limit") (codes "range") d ((refl, (refl, tt)), ((refl, tt), (tt, tt))) sorted n (there as_str _ _ word) (there (whole_of max_shown) _ _ limit_is) (there range_of _ _ range_is) in
-    subst (λ v. (d ≡ command_value v) × IsCommandWithin v) is (look_parts d range limit parts word range_is limit_is)))
+    option_and_then_some (λ range. option_map (command.Text range) (whole_in MAX_SHOWN (codes "limit") d)) (range_in d) c e (λ range range_is rest.
+    behind_map (command.Text range) (whole_in MAX_SHOWN (codes "limit") d) c rest (λ limit limit_is is.
+    let parts = three_of (codes "do") (codes "limit") (codes "range") d ((refl, (refl, tt)), ((refl, tt), (tt, tt))) sorted n (there as_str _ _ word) (there (whole_of MAX_SHOWN) _ _ limit_is) (there range_of _ _ range_is) in
+    subst (λ v. (d ≡ command_value v) × IsReadable v) is (look_parts d range limit parts word range_is limit_is)))
 
 -- one of two ways
 either_some : {A : Type 0} (b : Bool) (o p : Option A) (y : A) → cond b o p ≡ Some y → ((b ≡ true) × (o ≡ Some y)) ⊎ (p ≡ Some y)
 either_some true o p y e = inl (refl, e)
 either_some false o p y e = inr e
 
-command_exact : (d : Data) (c : Command) → IsInKeyOrder d → command_of d ≡ Some c → (d ≡ command_value c) × IsCommandWithin c
+command_exact : (d : Data) (c : Command) → IsInKeyOrder d → command_of d ≡ Some c → (d ≡ command_value c) × IsReadable c
 unfolding command_of
 command_exact d c sorted e =
     let t = test_some (member_count d == 3) _ c e in
@@ -202,14 +209,14 @@ command_exact d c sorted e =
       | inr other ↦ let look = test_some (is_word (string_in (codes "do") d) (codes "text")) (look_of d) c other in look_exact d c sorted n (word_exact _ _ look.0) look.1
     ]
 
-commands_exact : (ds : Items) (cs : List Command) → ItemsInKeyOrder ds → commands_of ds ≡ Some cs → (ds ≡ commands_items cs) × AllByRecursion IsCommandWithin cs
-commands_exact no_items cs sorted e = subst (λ xs. (no_items ≡ commands_items xs) × AllByRecursion IsCommandWithin xs) (same_Some [] cs e) (refl, tt)
+commands_exact : (ds : Items) (cs : List Command) → ItemsInKeyOrder ds → commands_of ds ≡ Some cs → (ds ≡ items_of (map command_value cs)) × AllByRecursion IsReadable cs
+commands_exact no_items cs sorted e = subst (λ xs. (no_items ≡ items_of (map command_value xs)) × AllByRecursion IsReadable xs) (same_Some [] cs e) (refl, tt)
 commands_exact (item d ds) cs sorted e =
     option_and_then_some (λ c. option_map (λ xs. c ∷ xs) (commands_of ds)) (command_of d) cs e (λ c first rest.
     behind_map (λ xs. c ∷ xs) (commands_of ds) cs rest (λ xs others is.
     let one = command_exact d c sorted.0 first in
     let more = commands_exact ds xs sorted.1 others in
-    subst (λ ys. (item d ds ≡ commands_items ys) × AllByRecursion IsCommandWithin ys) is (ap₂ item one.0 more.0, (one.1, more.1))))
+    subst (λ ys. (item d ds ≡ items_of (map command_value ys)) × AllByRecursion IsReadable ys) is (ap₂ item one.0 more.0, (one.1, more.1))))
 
 -- ---- sessions, the opening and the whole
 
@@ -221,17 +228,21 @@ array_exact (string s) ds e = absurd (none-some ds e)
 array_exact (array es) ds e = ap array (same_Some es ds e)
 array_exact (object ms) ds e = absurd (none-some ds e)
 
-session_exact : (d : Data) (cs : List Command) → IsInKeyOrder d → session_of d ≡ Some cs → (d ≡ array (commands_items cs)) × AllByRecursion IsCommandWithin cs
+session_exact : (d : Data) (cs : List Command) → IsInKeyOrder d → session_of d ≡ Some cs → (d ≡ session_value cs) × AllByRecursion IsReadable cs
 unfolding session_of
 session_exact d cs sorted e =
-    option_and_then_some bounded (option_and_then commands_of (as_array d)) cs e (λ found found_is ends.
-    option_and_then_some commands_of (as_array d) found found_is (λ ds ds_is commands.
+    option_and_then_some commands_of (as_array d) cs e (λ ds ds_is commands.
     let listed = array_exact d ds ds_is in
-    let exact = commands_exact ds found (subst IsInKeyOrder listed sorted) commands in
-    let same : found ≡ cs = (cond_some (is_bounded found) found cs ends).1 in
-    subst (λ xs. (d ≡ array (commands_items xs)) × AllByRecursion IsCommandWithin xs) same (listed ∙ ap array exact.0, exact.1)))
+    let exact = commands_exact ds cs (subst IsInKeyOrder listed sorted) commands in
+    (listed ∙ ap array exact.0, exact.1))
 
-sessions_exact : (d : Data) (sessions : List (List Command)) → IsInKeyOrder d → sessions_of d ≡ Some sessions → (d ≡ array (scripts_items sessions)) × AllByRecursion (AllByRecursion IsCommandWithin) sessions
+-- one session, and what it is
+record IsOneSession (d : Data) (sessions : List (List Command)) : Type 0 where
+  is : d ≡ list_value session_value sessions
+  one : length sessions ≡ 1
+  commands : AllByRecursion (AllByRecursion IsReadable) sessions
+
+sessions_exact : (d : Data) (sessions : List (List Command)) → IsInKeyOrder d → sessions_of d ≡ Some sessions → IsOneSession d sessions
 unfolding sessions_of
 sessions_exact d sessions sorted e =
     let t = test_some (item_count d == 1) _ sessions e in
@@ -240,17 +251,16 @@ sessions_exact d sessions sorted e =
     let inner : session_of f.0 ≡ Some session = subst (λ v. option_and_then session_of (at 0 v) ≡ Some session) f.1 found in
     let sorted_inner : IsInKeyOrder (array (item f.0 no_items)) = subst IsInKeyOrder f.1 sorted in
     let one = session_exact f.0 session sorted_inner.0 inner in
-    subst (λ xs. (d ≡ array (scripts_items xs)) × AllByRecursion (AllByRecursion IsCommandWithin) xs) is (f.1 ∙ ap (λ v. array (item v no_items)) one.0, (one.1, tt)))
+    subst (IsOneSession d) is (record { is = f.1 ∙ ap (λ v. array (item v no_items)) one.0; one = refl; commands = (one.1, tt) }))
 
-opening_exact : (d : Data) (o : Opening) → IsInKeyOrder d → opening_of d ≡ Some o → d ≡ opening_value o
+opening_exact : (d : Data) (o : Opening) → IsInKeyOrder d → opening_of d ≡ Some o → (d ≡ opening_value o) × (is_some (opening_text o) ≡ true)
 unfolding opening_of
 opening_exact d o sorted e =
     let t = test_some (member_count d == 1) _ o e in
-    option_and_then_some opened_by (string_in (codes "text") d) o t.1 (λ text text_is opens.
+    behind_map opening.Text (string_in (codes "text") d) o t.1 (λ text text_is is.
     let part = one_of (codes "text") d sorted (eqb-true (member_count d) 1 t.0) (there as_str _ _ text_is) in
     let x = string_exact part.0 text (subst (λ v. string_in (codes "text") v ≡ Some text) part.1 text_is) in
-    let same : opening.Text text ≡ o = (cond_some _ (opening.Text text) o opens).1 in
-    subst (λ v. d ≡ opening_value v) same (part.1 ∙ rw x refl))
+    subst (λ v. (d ≡ opening_value v) × (is_some (opening_text v) ≡ true)) is (part.1 ∙ rw x refl, refl))
 
 one_exact : (o : Option ℕ) → is_one o ≡ true → o ≡ Some 1
 one_exact None e = absurd (true≢false (sym e))
@@ -272,17 +282,18 @@ version_exact (Some d) e = ap Some (number_exact d 1 (one_exact _ e))
 
 value_parts : (d : Data) (o : Opening) (sessions : List (List Command)) (parts : IsThree (codes "open") (codes "sessions") (codes "version") d) → IsInKeyOrder d
     → option_and_then opening_of (get (codes "open") d) ≡ Some o → option_and_then sessions_of (get (codes "sessions") d) ≡ Some sessions → get (codes "version") d ≡ Some (whole 1)
-    → (d ≡ script_value (record { version = 1; opening = o; sessions = sessions })) × AllByRecursion (AllByRecursion IsCommandWithin) sessions
+    → (d ≡ script_value (record { version = 1; opening = o; sessions = sessions })) × IsReadableScript (record { version = 1; opening = o; sessions = sessions })
 value_parts d o sessions parts sorted opens found version =
     let within : IsInKeyOrder (object (member (codes "open") parts.first (member (codes "sessions") parts.second (member (codes "version") parts.third no_members)))) = subst IsInKeyOrder parts.is sorted in
     let x = opening_exact parts.first o within.1.0 (subst (λ v. option_and_then opening_of (get (codes "open") v) ≡ Some o) parts.is opens) in
     let y = sessions_exact parts.second sessions within.1.1.0 (subst (λ v. option_and_then sessions_of (get (codes "sessions") v) ≡ Some sessions) parts.is found) in
     let z : parts.third ≡ whole 1 = same_Some _ _ (subst (λ v. get (codes "version") v ≡ Some (whole 1)) parts.is version) in
-    (three_made (codes "open") (codes "sessions") (codes "version") d parts _ _ _ x y.0 z, y.1)
+    (three_made (codes "open") (codes "sessions") (codes "version") d parts _ _ _ x.0 y.is z, record { version = refl; one = y.one; opening = x.1; commands = y.commands })
 
-value_exact : (d : Data) (s : Script) → IsInKeyOrder d → script_of d ≡ Some s → (d ≡ script_value s) × AllByRecursion (AllByRecursion IsCommandWithin) s.sessions
-unfolding script_of
-value_exact d s sorted e =
+-- what is read as a script is its value, and is of what is built
+pub reading_exact : (d : Data) (s : Script) → IsInKeyOrder d → reading d ≡ Some s → (d ≡ script_value s) × IsReadableScript s
+unfolding reading
+reading_exact d s sorted e =
     let t = test_some ((member_count d == 3) && is_version_one d) _ s e in
     let b = and_parts (member_count d == 3) (is_version_one d) t.0 in
     let version = version_exact (get (codes "version") d) b.1 in
@@ -291,10 +302,4 @@ value_exact d s sorted e =
     behind_map (λ sessions. record { version = 1; opening = o; sessions = sessions }) (option_and_then sessions_of (get (codes "sessions") d)) s rest (λ sessions found is.
     let parts = three_of (codes "open") (codes "sessions") (codes "version") d ((refl, (refl, tt)), ((refl, tt), (tt, tt))) sorted (eqb-true (member_count d) 3 b.0)
     (there opening_of _ _ opens) (there sessions_of _ _ found) (some_there _ _ version) in
-    subst (λ v. (d ≡ script_value v) × AllByRecursion (AllByRecursion IsCommandWithin) v.sessions) is (value_parts d o sessions parts sorted opens found version)))
-
--- what is read as a script is its value, and it breaks no rule
-pub script_exact : (d : Data) (s : Script) → IsInKeyOrder d → script_of d ≡ Some s → (d ≡ script_value s) × BreaksNoRule s
-script_exact d s sorted e =
-    let exact = value_exact d s sorted e in
-    (exact.0, record { limits = value_within d s e; commands = exact.1 })
+    subst (λ v. (d ≡ script_value v) × IsReadableScript v) is (value_parts d o sessions parts sorted opens found version)))

@@ -8,7 +8,7 @@ use Rattle.json.specs.Tree.{json_tokens, depth, HasNumbers, ItemsHaveNumbers, Me
 use Rattle.json.proofs.Printed.Decimals.{IsNumber-decimal}
 use Rattle.json.proofs.Printed.Tokens.{tokens-print}
 use Rattle.json.proofs.Printed.Trees.{value-json_tokens, ArePrintable-json_tokens}
-use Rattle.script.specs.declared.reply.Transcript.{Transcript}
+use Rattle.machine.specs.declared.reply.Transcript.{Transcript}
 use Rattle.script.specs.TranscriptDocument.{transcript_value, transcript_text}
 use Rattle.script.specs.DocumentLaws.{IsWhole, ItemsAreWhole, MembersAreWhole}
 use Rattle.script.proofs.Apart.{transcripts_apart}

@@ -1,9 +1,10 @@
-pub mod Machine
+pub mod Parts
+pub mod Rows
+pub mod RuleName
+pub mod Rules
+pub mod Limits
+pub mod ScriptValue
 pub mod ScriptDocument
 pub mod Reading
 pub mod TranscriptDocument
-pub mod Limits
-pub mod ScriptValue
 pub mod DocumentLaws
-pub mod Lawful
-pub mod Laws

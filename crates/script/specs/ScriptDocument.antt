@@ -1,102 +1,30 @@
 -- Which JSON values are scripts, and which script each is.
-use Rattle.std.specs.Prelude.{◌≡◌, ℕ, suc, ◌+◌, ◌^◌, ◌==◌, ◌&&◌, nat_le, List, [], ◌∷◌, length, codes, count_by, Bool, true, false, refl, if◌then◌else◌, Option, Some, None, is_some, option_map, option_and_then}
-use Rattle.std.specs.Str.{bytes_eq, is_utf8}
-use Rattle.points.specs.declared.point.Point.{Point}
-use Rattle.points.specs.declared.range.Range.{Range}
-use Rattle.points.specs.Point.{point_le}
-use Rattle.points.specs.Text.{utf16_of}
-use Rattle.script.specs.declared.command.Command.{Command}
-use Rattle.script.specs.declared.command.Command.TheVariants as command
-use Rattle.script.specs.declared.command.Opening.{Opening}
-use Rattle.script.specs.declared.command.Opening.TheVariants as opening
-use Rattle.script.specs.declared.command.Script.{Script}
+use Rattle.std.specs.Prelude.{◌≡◌, ℕ, ◌==◌, ◌&&◌, List, [], ◌∷◌, codes, if◌then◌else◌, Option, Some, None, is_some, option_map, option_and_then}
+use Rattle.std.specs.Str.{is_utf8}
+use Rattle.machine.specs.declared.command.Command.{Command}
+use Rattle.machine.specs.declared.command.Command.TheVariants as command
+use Rattle.machine.specs.declared.command.Opening.{Opening}
+use Rattle.machine.specs.declared.command.Opening.TheVariants as opening
+use Rattle.machine.specs.declared.command.Script.{Script}
 use Rattle.script.specs.declared.refusal.ScriptRefusal.{ScriptRefusal}
 use Rattle.script.specs.declared.refusal.ScriptRefusal.TheVariants.{Refused, NoMemory}
 use Rattle.script.specs.declared.refusal.ScriptRule.{ScriptRule}
 use Rattle.script.specs.declared.refusal.ScriptRule.TheVariants.{NotJson, BadShape}
-use Rattle.script.specs.Machine.{max_units}
-use Rattle.serde_json.specs.Data.{Data, null, boolean, number, string, array, object, Items, no_items, item, Members, no_members, member}
-use Rattle.serde_json.specs.Find.{get, at, as_u64, as_number, as_str, as_array}
+use Rattle.script.specs.Limits.{is_within}
+use Rattle.script.specs.Parts.{member_count, item_count, string_in, whole_in, is_word, range_in}
+use Rattle.script.specs.declared.limits.TheConstants.{MAX_SHOWN}
+use Rattle.script.specs.Rules.{Fault, is_version_one, value_place}
+use Rattle.serde_json.specs.Data.{Data, Items, no_items, item}
+use Rattle.serde_json.specs.Find.{get, at, as_array}
 use Rattle.serde_json.specs.Read.{read}
 
--- how many members an object has; nothing else has any
-abbrev pub count_members : Members → ℕ
-count_members no_members = 0
-count_members (member k d ms) = suc (count_members ms)
-
-abbrev pub member_count : Data → ℕ
-member_count (object ms) = count_members ms
-member_count null = 0
-member_count (boolean b) = 0
-member_count (number n) = 0
-member_count (string s) = 0
-member_count (array ds) = 0
-
--- how many items a list has; nothing else has any
-abbrev pub count_items : Items → ℕ
-count_items no_items = 0
-count_items (item d ds) = suc (count_items ds)
-
-abbrev pub item_count : Data → ℕ
-item_count (array ds) = count_items ds
-item_count null = 0
-item_count (boolean b) = 0
-item_count (number n) = 0
-item_count (string s) = 0
-item_count (object ms) = 0
-
--- the string of a member, and its whole number where that is at most `limit`
-abbrev pub string_in : List ℕ → Data → Option (List ℕ)
-string_in key d = option_and_then as_str (get key d)
-
-abbrev pub within : ℕ → ℕ → Option ℕ
-within limit n = if nat_le n limit then Some n else None
-
-abbrev pub whole_of : ℕ → Data → Option ℕ
-whole_of limit d = option_and_then (within limit) (option_and_then as_u64 (as_number d))
-
-abbrev pub whole_in : ℕ → List ℕ → Data → Option ℕ
-whole_in limit key d = option_and_then (whole_of limit) (get key d)
-
--- a member is this word
-abbrev pub is_word : Option (List ℕ) → List ℕ → Bool
-is_word None word = false
-is_word (Some s) word = bytes_eq s word
-
--- the range between two points, where the end isn't before the start
-abbrev pub range_by : (start end : Point) (b : Bool) → point_le start end ≡ b → Option Range
-range_by start end true h = Some (record { start = start; end = end; ordered = h })
-range_by start end false h = None
-
-abbrev pub range_between : Point → Point → Option Range
-range_between start end = range_by start end (point_le start end) refl
-
--- the greatest row or column of a range
-abbrev pub max_coord : ℕ
-max_coord = 2 ^ 30
-
-abbrev pub coordinate : Data → ℕ → Option ℕ
-coordinate d i = option_and_then (whole_of max_coord) (at i d)
-
-abbrev pub point_from : Data → ℕ → Option Point
-point_from d i = option_and_then (λ row. option_map (λ column. record { row = row; column = column }) (coordinate d (i + 1))) (coordinate d i)
-
--- a range: a list of four whole numbers, the row and the column of its start and of its end
-unfoldable pub range_of : Data → Option Range
-range_of d = if item_count d == 4 then option_and_then (λ start. option_and_then (range_between start) (point_from d 2)) (point_from d 0) else None
-
-abbrev pub range_in : Data → Option Range
-range_in d = option_and_then range_of (get (codes "range") d)
-
--- the most units of a `text` that a script may ask for
-abbrev pub max_shown : ℕ
-max_shown = 65536
+-- ---- reading: a case for each word that is built
 
 unfoldable pub edit_of : Data → Option Command
 edit_of d = option_and_then (λ range. option_map (command.Edit range) (string_in (codes "text") d)) (range_in d)
 
 unfoldable pub look_of : Data → Option Command
-look_of d = option_and_then (λ range. option_map (command.Text range) (whole_in max_shown (codes "limit") d)) (range_in d)
+look_of d = option_and_then (λ range. option_map (command.Text range) (whole_in MAX_SHOWN (codes "limit") d)) (range_in d)
 
 -- a command: an object with three members, `do` among them, and the two others that its word asks for
 unfoldable pub command_of : Data → Option Command
@@ -108,47 +36,33 @@ abbrev pub commands_of : Items → Option (List Command)
 commands_of no_items = Some []
 commands_of (item d ds) = option_and_then (λ c. option_map (λ cs. c ∷ cs) (commands_of ds)) (command_of d)
 
-abbrev pub is_reading : Command → Bool
-is_reading (command.Edit range new) = false
-is_reading (command.Text range limit) = true
-
--- the limits of a script: its commands, and those that show a text
-abbrev pub max_commands : ℕ
-max_commands = 65536
-
-abbrev pub max_reading : ℕ
-max_reading = 4096
-
-abbrev pub is_bounded : List Command → Bool
-is_bounded cs = nat_le (length cs) max_commands && nat_le (count_by is_reading cs) max_reading
-
-abbrev pub bounded : List Command → Option (List Command)
-bounded cs = if is_bounded cs then Some cs else None
-
 unfoldable pub session_of : Data → Option (List Command)
-session_of d = option_and_then bounded (option_and_then commands_of (as_array d))
+session_of d = option_and_then commands_of (as_array d)
 
 -- the sessions: a list of one session
 unfoldable pub sessions_of : Data → Option (List (List Command))
 sessions_of d = if item_count d == 1 then option_map (λ session. session ∷ []) (option_and_then session_of (at 0 d)) else None
 
-abbrev pub opened_by : List ℕ → Option Opening
-opened_by text = if nat_le (length (utf16_of text)) max_units then Some (opening.Text text) else None
-
--- what a script opens: an object with the one member `text`, of at most 2^24 units
+-- what a script opens: an object with the one member `text`
 unfoldable pub opening_of : Data → Option Opening
-opening_of d = if member_count d == 1 then option_and_then opened_by (string_in (codes "text") d) else None
+opening_of d = if member_count d == 1 then option_map opening.Text (string_in (codes "text") d) else None
 
-abbrev pub is_one : Option ℕ → Bool
-is_one None = false
-is_one (Some n) = n == 1
+-- the script that a JSON value reads as: an object with the three members `version`, which is 1, `open` and `sessions`
+unfoldable pub reading : Data → Option Script
+reading d = if (member_count d == 3) && is_version_one d then option_and_then (λ o. option_map (λ sessions. record { version = 1; opening = o; sessions = sessions }) (option_and_then sessions_of (get (codes "sessions") d))) (option_and_then opening_of (get (codes "open") d)) else None
 
-abbrev pub is_version_one : Data → Bool
-is_version_one d = is_one (option_and_then as_u64 (option_and_then as_number (get (codes "version") d)))
+-- the same within the limits of a script of what is built
+abbrev pub only_within : Script → Option Script
+only_within s = if is_within s then Some s else None
 
--- the script that a JSON value is: an object with the three members `version`, which is 1, `open` and `sessions`
+abbrev pub reading_within : Data → Option Script
+reading_within d = option_and_then only_within (reading d)
+
+-- the script that a JSON value is: the one that it reads as, where no place breaks a rule
 unfoldable pub script_of : Data → Option Script
-script_of d = if (member_count d == 3) && is_version_one d then option_and_then (λ o. option_map (λ sessions. record { version = 1; opening = o; sessions = sessions }) (option_and_then sessions_of (get (codes "sessions") d))) (option_and_then opening_of (get (codes "open") d)) else None
+script_of d = if is_some (value_place d) then None else reading d
+
+-- ---- from bytes to a script
 
 -- the JSON value of a document: UTF-8 that is one JSON value
 unfoldable pub document : List ℕ → Option Data
@@ -158,15 +72,16 @@ document bytes = if is_utf8 bytes then read bytes else None
 abbrev pub script_in : List ℕ → Option Script
 script_in bytes = option_and_then script_of (document bytes)
 
--- the first place of a script that breaks a rule, with the lowest rule that it breaks there: session, command, rule
-abbrev pub place_in : Option Data → Option (ℕ × ℕ × ScriptRule)
+-- The fault that is told: NotJson where the bytes hold no value, and BadShape where the value is no script. Both are told of the document
+-- itself, session 0 command 0, until the other rules and places are.
+abbrev pub place_in : Option Data → Option Fault
 place_in None = Some (0, 0, NotJson)
 place_in (Some d) = if is_some (script_of d) then None else Some (0, 0, BadShape)
 
-abbrev pub script_place : List ℕ → Option (ℕ × ℕ × ScriptRule)
+abbrev pub script_place : List ℕ → Option Fault
 script_place bytes = place_in (document bytes)
 
 -- a script was refused there, or memory ran out
-abbrev pub IsRefusalAt : Option (ℕ × ℕ × ScriptRule) → ScriptRefusal → Type 0
+abbrev pub IsRefusalAt : Option Fault → ScriptRefusal → Type 0
 IsRefusalAt place (Refused session command why) = place ≡ Some (session, command, why)
 IsRefusalAt place NoMemory = Unit {0}

@@ -1,29 +1,30 @@
-//! Scripts and transcripts: the two documents of the program, what a plain string answers to a script,
-//! and which transcripts of a script are lawful.
+//! Scripts and transcripts as documents: JSON that is read and written.
 //!
-//! The meaning stands in `specs/`: the plain machine (`Machine`), the two documents as JSON values
-//! (`ScriptDocument`, `TranscriptDocument`) and what makes a transcript lawful (`Lawful`).
+//! The data stands in `machine`. The meaning stands in `specs/`: the parts of a JSON value (`Parts`), the table of
+//! commands and reads (`Rows`), the rules of a script and the first place that breaks one (`Rules`), which bytes
+//! are a script (`ScriptDocument`), and the JSON values of scripts and of transcripts (`ScriptValue`,
+//! `TranscriptDocument`).
 #![tactic(auto)]
 
-mod command;
 mod count;
 pub mod document_laws;
-pub mod laws;
 mod limits;
 mod parts;
 mod read;
 mod refusal;
-mod reply;
-mod sequence;
-mod text;
+mod replies;
+mod values;
 mod write;
 
-pub use command::{Command, Opening, Script};
+pub use limits::{
+    MAX_COMMANDS, MAX_FINDS, MAX_HITS, MAX_ID, MAX_NAME, MAX_READINGS, MAX_SAVES, MAX_SESSIONS, MAX_SHOWN,
+};
+pub use machine::{
+    BatchEdit, CallRefusal, Command, Encoding, HitNumbers, How, Opening, Read, ReadAnswer, Reply, ReplyPart,
+    Script, Sequence, Span, Text, Transcript, TranscriptEnd,
+};
 pub use read::read_script;
 pub use refusal::{ScriptRefusal, ScriptRule};
-pub use reply::{CallRefusal, Reply, Transcript, TranscriptEnd};
-pub use sequence::Sequence;
-pub use text::Text;
 pub use write::transcript_bytes;
 
 #[cfg(test)]

@@ -2,7 +2,7 @@
 ghost use Rattle.std.specs.Prelude.{◌≡◌, ◌<◌};
 ghost use Rattle.serde_json.specs.Find.{get};
 ghost use Rattle.serde_json.specs.View.{view};
-ghost use Rattle.script.specs.ScriptDocument.{member_count, item_count, string_in, whole_of, whole_in, coordinate, point_from, range_between, range_of, range_in, max_coord};
+ghost use Rattle.script.specs.Parts.{member_count, item_count, string_in, whole_of, whole_in, coordinate, point_from, range_between, range_of, range_in};
 ghost use Rattle.script.specs.Reading.{Gives};
 ghost use Rattle.script.specs.declared.parts.Misfit.TheVariants.{NoMemory};
 
@@ -108,7 +108,7 @@ fn range_between(start: Point, end: Point) -> Result<Range, Misfit>
 }
 
 // A range: a list of four whole numbers.
-#[tactic(auto, unfolding(crate::specs::ScriptDocument::range_of))]
+#[tactic(auto, unfolding(crate::specs::Parts::range_of))]
 fn range_of(value: &Value) -> Result<Range, Misfit>
     ensures { Gives (λ r. r) result (range_of (view value.now)) }
 {

@@ -1,17 +1,16 @@
 //! From bytes to a script.
 ghost use Rattle.std.specs.Prelude.{◌≡◌, Some, IfOk, IfErr};
 ghost use Rattle.serde_json.specs.View.{view, items_view};
-ghost use Rattle.script.specs.ScriptDocument.{edit_of, look_of, command_of, commands_of, session_of, sessions_of, opened_by, opening_of, is_version_one, script_of, document, script_in, script_place, IsRefusalAt};
+ghost use Rattle.script.specs.ScriptDocument.{edit_of, look_of, command_of, commands_of, session_of, sessions_of, opening_of, reading, reading_within, document, script_in, script_place, IsRefusalAt};
+ghost use Rattle.script.specs.Rules.{is_version_one};
 ghost use Rattle.script.specs.Reading.{Gives};
-ghost use Rattle.script.specs.Limits.{IsWithinLimits};
+ghost use Rattle.script.specs.Limits.{is_within, IsWithinLimits};
 
-use crate::command::{Command, Opening, Script};
-use crate::count::{is_bounded, units_of};
-use crate::limits::{MAX_SHOWN, MAX_UNITS};
+use crate::count::is_within;
+use crate::limits::MAX_SHOWN;
 use crate::parts::{Misfit, item_count, member, member_count, range_in, string_in, whole_in};
 use crate::refusal::{ScriptRefusal, ScriptRule};
-use crate::sequence::Sequence;
-use crate::text::Text;
+use machine::{Command, Opening, Script, Sequence, Text};
 use serde_json::Value;
 use std::alloc::Global;
 
@@ -68,9 +67,6 @@ fn session_of(alloc: Global, value: &Value) -> Result<Sequence<Command>, Misfit>
 {
     let items = value.as_array().ok_or(Misfit::Shape)?;
     let commands = commands_of(alloc, items.as_slice())?;
-    if !is_bounded(commands.as_slice()) {
-        return Err(Misfit::Shape);
-    }
     Ok(Sequence::new(commands))
 }
 
@@ -95,9 +91,6 @@ fn opening_of(alloc: Global, value: &Value) -> Result<Opening, Misfit>
         return Err(Misfit::Shape);
     }
     let text = string_in(value, "text")?;
-    if units_of(text) > MAX_UNITS {
-        return Err(Misfit::Shape);
-    }
     let text = Text::from_str(alloc, text)?;
     Ok(Opening::Text { text })
 }
@@ -111,9 +104,9 @@ fn is_version_one(value: &Value) -> bool
     }
 }
 
-#[tactic(auto, unfolding(crate::specs::ScriptDocument::script_of))]
-fn script_of(alloc: Global, value: &Value) -> Result<Script, Misfit>
-    ensures { Gives (λ s. s) result (script_of (view value.now)) }
+#[tactic(auto, unfolding(crate::specs::ScriptDocument::reading))]
+fn reading(alloc: Global, value: &Value) -> Result<Script, Misfit>
+    ensures { Gives (λ s. s) result (reading (view value.now)) }
 {
     if member_count(value) != 3 || !is_version_one(value) {
         return Err(Misfit::Shape);
@@ -125,6 +118,17 @@ fn script_of(alloc: Global, value: &Value) -> Result<Script, Misfit>
         opening,
         sessions,
     })
+}
+
+fn reading_within(alloc: Global, value: &Value) -> Result<Script, Misfit>
+    ensures { Gives (λ s. s) result (reading_within (view value.now)) }
+{
+    let script = reading(alloc, value)?;
+    if is_within(&script) {
+        Ok(script)
+    } else {
+        Err(Misfit::Shape)
+    }
 }
 
 fn refused(why: ScriptRule) -> ScriptRefusal
@@ -149,7 +153,7 @@ pub fn read_script(alloc: Global, bytes: &[u8]) -> Result<Script, ScriptRefusal>
         Err(error) if error.is_memory() => return Err(ScriptRefusal::NoMemory),
         Err(_) => return Err(refused(ScriptRule::NotJson)),
     };
-    match script_of(alloc, &value) {
+    match reading_within(alloc, &value) {
         Ok(script) => Ok(script),
         Err(Misfit::Shape) => Err(refused(ScriptRule::BadShape)),
         Err(Misfit::NoMemory) => Err(ScriptRefusal::NoMemory),

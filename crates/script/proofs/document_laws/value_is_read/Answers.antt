@@ -1,5 +1,5 @@
-use Rattle.script.proofs.ScriptAgain.{script_again}
+use Rattle.script.proofs.RuleLemmas.{value_read}
 use Rattle.script.proofs.document_laws.value_is_read.Goals as goal
 
 pub returns : goal.returns
-returns c = script_again
+returns c = value_read
