@@ -1,6 +1,7 @@
 //! The text that a run edits. It has no marks, no watchers and no undo, so contracts see in it what the plain machine
 //! keeps of a text alone, and its answers are those of the plain machine.
-ghost use Rattle.std.specs.Prelude.{◌≡◌, ℕ, ◌+◌, ◌-◌, ◌<◌, ◌≤◌, ◌==◌, ◌&&◌, length, IfOk, OnErr};
+ghost use Rattle.std.specs.Prelude.{◌≡◌, ℕ, ◌+◌, ◌-◌, ◌<◌, ◌≤◌, ◌==◌, ◌&&◌, length};
+ghost use Rattle.std.specs.Prelude.{IfOk, OnErr};
 ghost use Rattle.points.specs.Text.{utf16_of, text_of};
 ghost use Rattle.machine.specs.Machine.{opened, shown};
 ghost use Rattle.buffer_cli.specs.Answered.{answered};

@@ -71,7 +71,8 @@ impl fmt::Display for Fault {
         match self.status {
             Status::Done => Ok(()),
             Status::Usage => f.write_str(
-                "usage: run [--workers N] | bulk FIRST EDITS WORKERS | check SCRIPT TRANSCRIPT | make FIRST EDITS SESSIONS",
+                "usage: run [--workers N] | bulk FIRST EDITS WORKERS | check SCRIPT TRANSCRIPT \
+                 | make FIRST EDITS SESSIONS",
             ),
             Status::ScriptRefused {
                 session,

@@ -2,10 +2,10 @@
 use crate::adapters::{Reading, Writing};
 use crate::document::Document;
 use crate::{Status, run_script};
+use machine::{CallRefusal, Reply};
 use outer::{MemSink, MemSource, Sink, Source, SureSink, SureSource};
 use points::{Point, Range};
 use script::ScriptRule;
-use machine::{CallRefusal, Reply};
 use std::alloc::{AllocError, Global};
 use std::io;
 use std::test::Fail;
