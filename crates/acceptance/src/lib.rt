@@ -9,6 +9,8 @@ mod machine_tests;
 #[cfg(test)]
 mod markers_tests;
 #[cfg(test)]
+mod outer_tests;
+#[cfg(test)]
 mod patch_algebra_tests;
 #[cfg(test)]
 mod patch_cases;

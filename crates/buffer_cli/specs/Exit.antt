@@ -1,5 +1,6 @@
 -- What the program tells of a status.
-use Rattle.std.specs.Prelude.{ℕ}
+use Rattle.std.specs.Prelude.{ℕ, List, [], ◌++◌, codes, decimal}
+use Rattle.script.specs.RuleName.{rule_name}
 use Rattle.buffer_cli.specs.declared.status.Status.{Status}
 use Rattle.buffer_cli.specs.declared.status.Status.TheVariants as status
 
@@ -12,3 +13,13 @@ exit_code status.ReadFault = 4
 exit_code status.WriteFault = 5
 exit_code status.InputTooLong = 8
 exit_code status.NoMemory = 9
+
+-- the line on standard error, without its end
+abbrev pub fault_text : Status → List ℕ
+fault_text status.Done = []
+fault_text status.Usage = codes "usage: run [--workers N] | bulk FIRST EDITS WORKERS | check SCRIPT TRANSCRIPT | make FIRST EDITS SESSIONS"
+fault_text (status.ScriptRefused session command why) = codes "script refused: session " ++ decimal session ++ codes " command " ++ decimal command ++ codes ": " ++ rule_name why
+fault_text status.ReadFault = codes "cannot read the input"
+fault_text status.WriteFault = codes "cannot write the output"
+fault_text status.InputTooLong = codes "input too long"
+fault_text status.NoMemory = codes "out of memory"

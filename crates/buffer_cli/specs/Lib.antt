@@ -1,3 +1,4 @@
 pub mod Input
+pub mod Answered
 pub mod Run
 pub mod Exit

@@ -4,13 +4,13 @@ use Rattle.std.specs.declared.alloc.Global.{Global}
 use Rattle.std.specs.Str.{bytes_eq}
 use Rattle.outer.specs.Source.{IsAtEnd}
 use Rattle.outer.specs.Sink.{Appends, AppendsPrefix}
-use Rattle.script.specs.declared.command.Script.{Script}
-use Rattle.script.specs.declared.reply.Transcript.{Transcript}
+use Rattle.machine.specs.declared.command.Script.{Script}
+use Rattle.machine.specs.declared.reply.Transcript.{Transcript}
+use Rattle.machine.specs.Answers.{opening_text}
+use Rattle.machine.specs.Lawful.{IsLawful}
 use Rattle.script.specs.declared.refusal.ScriptRule.{ScriptRule}
-use Rattle.script.specs.Machine.{opening_units}
 use Rattle.script.specs.ScriptDocument.{document, script_in, script_place}
 use Rattle.script.specs.TranscriptDocument.{transcript_value, transcript_text}
-use Rattle.script.specs.Lawful.{IsLawful}
 use Rattle.buffer_cli.specs.declared.status.Status.{Status}
 use Rattle.buffer_cli.specs.declared.status.Status.TheVariants as status
 use Rattle.buffer_cli.specs.Input.{max_input}
@@ -21,28 +21,48 @@ is_run_line [] = false
 is_run_line (word ∷ []) = bytes_eq (string_bytes word) (codes "run")
 is_run_line (word ∷ second ∷ rest) = false
 
--- The bytes are a script's, and the text is that of a transcript that is lawful for it, whose JSON value the text has.
+-- A transcript is lawful for a script that opens with these units. No hits of patterns are told yet.
+pub record IsLawfulRun (script : Script) (transcript : Transcript) : Type 0 where
+  pub opening : List ℕ
+  pub opens : opening_text script.opening ≡ Some opening
+  pub lawful : IsLawful script opening [] transcript
+
+-- The bytes are a script's, and the text is that of a transcript that is lawful for it over the text that it opened with. The
+-- text has the transcript's JSON value.
 pub record IsAnswer (bytes text : List ℕ) : Type 0 where
   pub script : Script
   pub read : script_in bytes ≡ Some script
+  pub opening : List ℕ
+  pub opens : opening_text script.opening ≡ Some opening
   pub transcript : Transcript
-  pub lawful : IsLawful script (opening_units script.opening) transcript
+  pub lawful : IsLawful script opening [] transcript
   pub written : text ≡ transcript_text transcript
   pub reads_back : document text ≡ Some (transcript_value transcript)
 
--- the source was read to its end, within the limit
-abbrev pub IsWhole : List ℕ → Option (List ℕ) → Type 0
-IsWhole bytes left = (length bytes ≤ max_input) × IsAtEnd left
+-- what a run did outside: the bytes that it read, what the input has left, and what the output took before the run and after it
+pub record Outside : Type 0 where
+  pub bytes : List ℕ
+  pub left : Option (List ℕ)
+  pub before : Option (List ℕ)
+  pub after : Option (List ℕ)
 
--- What a status says of the bytes that were read, of what the input has left, and of what the output took.
-abbrev pub Explains : Status → List ℕ → Option (List ℕ) → Option (List ℕ) → Option (List ℕ) → Type 0
-Explains status.Done bytes left before after = IsWhole bytes left × ((text : List ℕ) × IsAnswer bytes text × Appends text before after)
-Explains status.Usage bytes left before after = (bytes ≡ []) × (after ≡ before)
-Explains (status.ScriptRefused session command why) bytes left before after = IsWhole bytes left × (script_place bytes ≡ Some (session, command, why)) × (after ≡ before)
-Explains status.ReadFault bytes left before after = (length bytes ≤ max_input) × (after ≡ before)
-Explains status.WriteFault bytes left before after = IsWhole bytes left × ((text : List ℕ) × IsAnswer bytes text × AppendsPrefix text before after)
-Explains status.InputTooLong bytes left before after = (length bytes ≡ max_input + 1) × (after ≡ before)
-Explains status.NoMemory bytes left before after = (length bytes ≤ max_input + 1) × (after ≡ before)
+-- the source was read to its end, within the limit
+abbrev pub IsWhole : Outside → Type 0
+IsWhole o = (length o.bytes ≤ max_input) × IsAtEnd o.left
+
+-- nothing was written
+abbrev pub IsUnwritten : Outside → Type 0
+IsUnwritten o = o.after ≡ o.before
+
+-- What a status says of what the run did outside.
+abbrev pub Explains : Status → Outside → Type 0
+Explains status.Done o = IsWhole o × ((text : List ℕ) × IsAnswer o.bytes text × Appends text o.before o.after)
+Explains status.Usage o = (o.bytes ≡ []) × IsUnwritten o
+Explains (status.ScriptRefused session command why) o = IsWhole o × (script_place o.bytes ≡ Some (session, command, why)) × IsUnwritten o
+Explains status.ReadFault o = (length o.bytes ≤ max_input) × IsUnwritten o
+Explains status.WriteFault o = IsWhole o × ((text : List ℕ) × IsAnswer o.bytes text × AppendsPrefix text o.before o.after)
+Explains status.InputTooLong o = (length o.bytes ≡ max_input + 1) × IsUnwritten o
+Explains status.NoMemory o = (length o.bytes ≤ max_input + 1) × IsUnwritten o
 
 -- the status of a script, by the place where it is refused
 abbrev pub status_of : Option (ℕ × ℕ × ScriptRule) → Status

@@ -1,6 +1,7 @@
 //! The trusted edge: standard input as a source, and standard output as a sink. They tell nothing of
-//! the bytes that pass, and count their faults.
-ghost use Rattle.std.specs.Prelude.{None};
+//! the bytes that pass. Each counts its faults from 0 on: a call raises the count exactly where it fails.
+ghost use Rattle.std.specs.Prelude.{◌≡◌, ◌≤◌, length, None, IfOk, OnOk, OnErr};
+ghost use Rattle.outer.specs.Count.{Rose, counted};
 
 use outer::{Failed, Sink, Source};
 use std::io;
@@ -13,7 +14,9 @@ pub(crate) struct Reading<R> {
 }
 
 impl<R> Reading<R> {
-    pub(crate) fn new(reader: R) -> Self {
+    pub(crate) fn new(reader: R) -> Self
+        ensures { result.faults ≡ 0 }
+    {
         Reading { reader, faults: 0 }
     }
 }
@@ -23,7 +26,13 @@ impl<R: io::Read> Source for Reading<R> {
 
     ghost faults = { λ r. r.faults };
 
-    fn read(&mut self, into: &mut [u8]) -> Result<usize, Failed> {
+    fn read(&mut self, into: &mut [u8]) -> Result<usize, Failed>
+        ensures count { self.old.faults ≤ self.new.faults }
+        ensures cause { OnErr result (Rose self.old.faults self.new.faults) }
+        ensures within { IfOk result (λ n. n ≤ length into.new) }
+        ensures ok_count { OnOk result (self.new.faults ≡ self.old.faults) }
+        ensures err_count { OnErr result (self.new.faults ≡ counted self.old.faults) }
+    {
         match self.reader.read(into) {
             Ok(count) => Ok(count),
             Err(_) => {
@@ -42,7 +51,9 @@ pub(crate) struct Writing<W> {
 }
 
 impl<W> Writing<W> {
-    pub(crate) fn new(writer: W) -> Self {
+    pub(crate) fn new(writer: W) -> Self
+        ensures { result.faults ≡ 0 }
+    {
         Writing { writer, faults: 0 }
     }
 
@@ -58,7 +69,12 @@ impl<W: io::Write> Sink for Writing<W> {
 
     ghost faults = { λ w. w.faults };
 
-    fn put(&mut self, bytes: &[u8]) -> Result<(), Failed> {
+    fn put(&mut self, bytes: &[u8]) -> Result<(), Failed>
+        ensures count { self.old.faults ≤ self.new.faults }
+        ensures cause { OnErr result (Rose self.old.faults self.new.faults) }
+        ensures ok_count { OnOk result (self.new.faults ≡ self.old.faults) }
+        ensures err_count { OnErr result (self.new.faults ≡ counted self.old.faults) }
+    {
         match self.writer.write_all(bytes) {
             Ok(()) => Ok(()),
             Err(_) => {
@@ -68,7 +84,12 @@ impl<W: io::Write> Sink for Writing<W> {
         }
     }
 
-    fn flush(&mut self) -> Result<(), Failed> {
+    fn flush(&mut self) -> Result<(), Failed>
+        ensures count { self.old.faults ≤ self.new.faults }
+        ensures cause { OnErr result (Rose self.old.faults self.new.faults) }
+        ensures ok_count { OnOk result (self.new.faults ≡ self.old.faults) }
+        ensures err_count { OnErr result (self.new.faults ≡ counted self.old.faults) }
+    {
         match self.writer.flush() {
             Ok(()) => Ok(()),
             Err(_) => {

@@ -1,17 +1,19 @@
-ghost use Rattle.std.specs.Prelude.{◌≡◌, ◌+◌, ◌-◌, ◌<◌, ◌^◌, length, map, IfOk, IfErr, OnErr};
+//! From the bytes of a script to those of its transcript: they are read, the commands of the one session are answered
+//! in turn, and the replies are written.
+ghost use Rattle.std.specs.Prelude.{◌≡◌, ◌+◌, ◌<◌, length, true, Some, IfOk, IfErr, OnOk, OnErr};
+ghost use Rattle.std.specs.List.{AllByRecursion};
 ghost use Rattle.points.specs.Text.{utf16_of};
+ghost use Rattle.machine.specs.Answers.{opening_text};
+ghost use Rattle.machine.specs.Bare.{is_plain, bare_after, bare_replies};
 ghost use Rattle.script.specs.Limits.{IsWithinLimits};
-ghost use Rattle.script.specs.Lawful.{IsLawful};
-ghost use Rattle.script.specs.Machine.{opening_units, call_of, step, after, replies};
 ghost use Rattle.script.specs.ScriptDocument.{script_place, IsRefusalAt};
-ghost use Rattle.buffer_cli.specs.Run.{IsAnswer};
+ghost use Rattle.buffer_cli.specs.Answered.{answered};
+ghost use Rattle.buffer_cli.specs.Run.{IsAnswer, IsLawfulRun};
 
 use crate::document::Document;
-use points::NoMemory;
-use script::{
-    Command, Opening, Reply, Script, ScriptRefusal, Sequence, Transcript, TranscriptEnd,
-    read_script, transcript_bytes,
-};
+use machine::{Command, Opening, Reply, Script, Sequence, Transcript, TranscriptEnd};
+use points::{LAST, NoMemory};
+use script::{ScriptRefusal, read_script, transcript_bytes};
 use std::alloc::Global;
 
 /// The text of a lawful transcript of the script with these bytes.
@@ -33,7 +35,7 @@ pub(crate) fn answer(alloc: Global, bytes: Vec<u8>) -> Result<Vec<u8>, ScriptRef
 /// A lawful transcript of the script: what its one session is answered, call by call.
 fn perform(alloc: Global, script: &Script) -> Result<Transcript, NoMemory>
     requires { IsWithinLimits script.now }
-    ensures { IfOk result (IsLawful script.now (opening_units script.now.opening)) }
+    ensures { IfOk result (IsLawfulRun script.now) }
 {
     let mut document = Document::open(alloc, opening_text(script))?;
     let session = &script.sessions.as_slice()[0];
@@ -46,16 +48,19 @@ fn perform(alloc: Global, script: &Script) -> Result<Transcript, NoMemory>
             text: document.to_text(alloc)?,
         },
         sessions: Sequence::new(sessions),
-        version: 1,
+        version: script.version,
     })
 }
 
 /// The text that a script opens with.
 fn opening_text(script: &Script) -> &str
-    ensures { utf16_of result.now ≡ opening_units script.now.opening }
+    requires { IsWithinLimits script.now }
+    ensures { opening_text script.now.opening ≡ Some (utf16_of result.now) }
 {
-    let Opening::Text { text } = &script.opening;
-    text.as_str()
+    match &script.opening {
+        Opening::Text { text } => text.as_str(),
+        Opening::File { .. } => unreachable!(),
+    }
 }
 
 /// Answers these commands in turn.
@@ -64,9 +69,10 @@ fn answer_all(
     document: &mut Document,
     commands: &[Command],
 ) -> Result<Vec<Reply>, NoMemory>
-    requires { document.old.count + length commands.now < 2 ^ 64 - 1 }
-    ensures replies { IfOk result (λ rs. rs.items ≡ replies document.old (map call_of commands.now)) }
-    ensures after { IfOk result (λ _. document.new ≡ after document.old (map call_of commands.now)) }
+    requires count { document.old.count + length commands.now < LAST }
+    requires plain { AllByRecursion (λ c. is_plain c ≡ true) commands.now }
+    ensures replies { IfOk result (λ rs. rs.items ≡ bare_replies 1 document.old commands.now) }
+    ensures after { OnOk result (document.new ≡ bare_after document.old commands.now) }
 {
     let mut replies = Vec::new(alloc);
     for command in commands {
@@ -76,12 +82,15 @@ fn answer_all(
 }
 
 fn answer_one(alloc: Global, document: &mut Document, command: &Command) -> Result<Reply, NoMemory>
-    requires { document.old.count < 2 ^ 64 - 1 }
-    ensures ok { IfOk result (λ reply. step document.old (call_of command.now) ≡ (document.new, reply)) }
+    requires count { document.old.count < LAST }
+    requires plain { is_plain command.now ≡ true }
+    ensures ok { IfOk result (λ reply. (document.new, reply) ≡ answered document.old command.now) }
     ensures err { OnErr result (document.new ≡ document.old) }
 {
     match command {
         Command::Edit { range, text } => document.edit(*range, text.as_str()),
         Command::Text { range, limit } => document.look(alloc, *range, *limit),
+        // The other words aren't built yet, and their scripts are refused.
+        _ => unreachable!(),
     }
 }

@@ -1,22 +1,27 @@
-ghost use Rattle.std.specs.Prelude.{◌≡◌, ℕ, ◌+◌, ◌-◌, ◌<◌, ◌≤◌, ◌^◌, ◌==◌, ◌&&◌, length, IfOk, OnErr};
+//! The text that a run edits. It has no marks, no watchers and no undo, so contracts see in it what the plain machine
+//! keeps of a text alone, and its answers are those of the plain machine.
+ghost use Rattle.std.specs.Prelude.{◌≡◌, ℕ, ◌+◌, ◌-◌, ◌<◌, ◌≤◌, ◌==◌, ◌&&◌, length};
+ghost use Rattle.std.specs.Prelude.{IfOk, OnErr};
 ghost use Rattle.points.specs.Text.{utf16_of, text_of};
-ghost use Rattle.script.specs.Machine.{max_units, opened, edit, text as look, step, shown};
+ghost use Rattle.machine.specs.Machine.{opened, shown};
+ghost use Rattle.buffer_cli.specs.Answered.{answered};
+ghost use Rattle.machine.specs.declared.command.Command.TheVariants as command;
 
 use line_text::{LineText, TextRefusal, splits_pair};
-use points::{HitCounts, NoMemory, Range};
-use script::{CallRefusal, Reply, Text};
+use machine::{CallRefusal, HitNumbers, Reply, Text};
+use points::{LAST, MAX_UNITS, NoMemory, Range};
 use std::alloc::Global;
 use std::marker::Model;
 
 /// There are no marks, so a change hits none.
-const NO_HITS: HitCounts = HitCounts {
+const NO_HITS: HitNumbers = HitNumbers {
     touch: 0,
     inside: 0,
     overlap: 0,
     surround: 0,
 };
 
-/// The text that a run edits, with the count of its calls. Contracts see the plain machine's state.
+/// The text that a run edits, with the count of its calls. Contracts see a bare state of the plain machine.
 #[derive(Debug, Drop)]
 pub(crate) struct Document {
     text: LineText,
@@ -27,17 +32,18 @@ pub(crate) struct Document {
 }
 
 impl Model for Document {
-    ghost use Rattle.script.specs.Machine.{State};
+    ghost use Rattle.machine.specs.Machine.{State};
+    ghost use Rattle.machine.specs.Bare.{bare_state};
 
     ghost Value = { State };
 
-    ghost view = { λ d. record { text = d.text; count = d.count; version = d.version } };
+    ghost view = { λ d. bare_state d.text d.count d.version };
 }
 
 impl Document {
     /// A document with this text, before any call.
     pub(crate) fn open(alloc: Global, text: &str) -> Result<Self, NoMemory>
-        requires { length (utf16_of text.now) ≤ max_units }
+        requires { length (utf16_of text.now) ≤ MAX_UNITS }
         ensures { IfOk result (λ d. d ≡ opened (utf16_of text.now)) }
     {
         match LineText::from_str(alloc, text) {
@@ -68,8 +74,8 @@ impl Document {
 
     /// Replaces the clipped range by the text.
     pub(crate) fn edit(&mut self, range: Range, text: &str) -> Result<Reply, NoMemory>
-        requires { self.old.count < 2 ^ 64 - 1 }
-        ensures ok { IfOk result (λ reply. step self.old (edit range (utf16_of text.now)) ≡ (self.new, reply)) }
+        requires { self.old.count < LAST }
+        ensures ok { IfOk result (λ reply. (self.new, reply) ≡ answered self.old (command.Edit range text.now)) }
         ensures err { OnErr result (self.new ≡ self.old) }
     {
         let (from, to) = self.text.span(range);
@@ -115,8 +121,8 @@ impl Document {
         range: Range,
         limit: u32,
     ) -> Result<Reply, NoMemory>
-        requires { self.old.count < 2 ^ 64 - 1 }
-        ensures ok { IfOk result (λ reply. step self.old (look range limit) ≡ (self.new, reply)) }
+        requires { self.old.count < LAST }
+        ensures ok { IfOk result (λ reply. (self.new, reply) ≡ answered self.old (command.Text range limit)) }
         ensures err { OnErr result (self.new ≡ self.old) }
     {
         let (from, to) = self.text.span(range);

@@ -1,3 +1,4 @@
+//! Reading an input to its end, up to a limit, piece by piece.
 ghost use Rattle.std.specs.Prelude.{◌≡◌, ℕ, ◌<◌, ◌≤◌, List, length, vec_len, IfOk};
 ghost use Rattle.outer.specs.Count.{Rose};
 ghost use Rattle.outer.specs.Source.{Gives};

@@ -1,3 +1,4 @@
+//! Writing a result: all its bytes, and then a flush.
 ghost use Rattle.std.specs.Prelude.{◌≡◌, ◌≤◌, OnOk, OnErr};
 ghost use Rattle.outer.specs.Count.{Rose};
 ghost use Rattle.outer.specs.Sink.{Appends, AppendsPrefix};

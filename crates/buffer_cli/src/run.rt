@@ -1,3 +1,4 @@
+//! The top call: it reads the script, answers it and writes the transcript. Its contract is what the program promises.
 ghost use Rattle.std.specs.Prelude.{◌≡◌, ◌⊎◌, ◌↔◌, ℕ, ◌≤◌, List, true, false, IfSome};
 ghost use Rattle.outer.specs.Count.{Rose};
 ghost use Rattle.outer.specs.Source.{Gives};
@@ -23,7 +24,12 @@ pub fn run_script<I: Source, O: Sink>(
     // input was read to its end, and the output took the text of a transcript that is lawful for the
     // script whose bytes were read.
     ensures outcome { (bytes : List ℕ) × Gives bytes (I.left input.old) (I.left input.new)
-        × Explains result bytes (I.left input.new) (O.taken output.old) (O.taken output.new) }
+        × Explains result (record {
+          bytes = bytes;
+          left = I.left input.new;
+          before = O.taken output.old;
+          after = O.taken output.new;
+        }) }
 
     ensures usage { (result ≡ Status.Usage) ↔ (is_run_line words.now ≡ false) }
 

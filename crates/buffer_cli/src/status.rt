@@ -1,5 +1,6 @@
-ghost use Rattle.std.specs.Prelude.{◌≡◌, ◌↔◌, None, IfSome};
-ghost use Rattle.buffer_cli.specs.Exit.{exit_code};
+//! How a run ends: its status, the exit status of the program, and the line on standard error.
+ghost use Rattle.std.specs.Prelude.{◌≡◌, ◌↔◌, Some, None, IfSome};
+ghost use Rattle.buffer_cli.specs.Exit.{exit_code, fault_text};
 ghost use Rattle.buffer_cli.specs.declared.status.Status.TheVariants.{Done};
 
 use script::ScriptRule;
@@ -64,11 +65,14 @@ pub struct Fault {
 }
 
 impl fmt::Display for Fault {
+    ghost output = { λ fault. Some (fault_text fault.status) };
+
     fn fmt<W: fmt::Write>(&self, f: &mut fmt::Formatter<W>) -> fmt::Result {
         match self.status {
             Status::Done => Ok(()),
             Status::Usage => f.write_str(
-                "usage: run [--workers N] | bulk FIRST EDITS WORKERS | check SCRIPT TRANSCRIPT | make FIRST EDITS SESSIONS",
+                "usage: run [--workers N] | bulk FIRST EDITS WORKERS | check SCRIPT TRANSCRIPT \
+                 | make FIRST EDITS SESSIONS",
             ),
             Status::ScriptRefused {
                 session,

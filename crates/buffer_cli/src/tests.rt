@@ -1,27 +1,28 @@
-ghost use Rattle.std.specs.Prelude.{◌≡◌, vec_len, IfOk};
-
+//! The top call over sources and sinks in memory, the adapters over readers and writers, and the lines of the statuses.
 use crate::adapters::{Reading, Writing};
 use crate::document::Document;
 use crate::{Status, run_script};
-use outer::{Failed, MemSink, MemSource, Sink, Source, SureSink, SureSource};
+use machine::{CallRefusal, Reply};
+use outer::{MemSink, MemSource, Sink, Source, SureSink, SureSource};
 use points::{Point, Range};
-use script::{CallRefusal, Reply, ScriptRule};
+use script::ScriptRule;
 use std::alloc::{AllocError, Global};
 use std::io;
 use std::test::Fail;
 
 /// The script of the program's stored run, and its transcript.
-const HI: &str =
-    "{\"version\":1,\"open\":{\"text\":\"\"},\"sessions\":[[{\"do\":\"edit\",\"range\":[0,0,0,0],\"text\":\"hi\"},{\"do\":\"text\",\"range\":[0,0,9,9],\"limit\":100}]]}";
+const HI: &str = r#"{"version":1,"open":{"text":""},"sessions":[[
+    {"do":"edit","range":[0,0,0,0],"text":"hi"},{"do":"text","range":[0,0,9,9],"limit":100}]]}"#;
 
-const HI_TRANSCRIPT: &str =
-    "{\"end\":{\"count\":2,\"text\":\"hi\"},\"sessions\":[[{\"at\":1,\"end\":[0,2],\"from\":[0,0],\"hits\":[0,0,0,0],\"to\":[0,0]},{\"at\":2,\"text\":\"hi\",\"units\":2}]],\"version\":1}\n";
+const HI_TRANSCRIPT: &str = "{\"end\":{\"count\":2,\"text\":\"hi\"},\"sessions\":[[\
+    {\"at\":1,\"end\":[0,2],\"from\":[0,0],\"hits\":[0,0,0,0],\"to\":[0,0]},\
+    {\"at\":2,\"text\":\"hi\",\"units\":2}]],\"version\":1}\n";
 
 /// This many bytes of one value.
-fn repeated(alloc: Global, byte: u8, count: usize) -> Result<Vec<u8>, AllocError>
-    ensures { IfOk result (λ v. vec_len v ≡ count) }
-{
-    vec![in alloc; byte; count]
+fn repeated(alloc: Global, byte: u8, count: usize) -> Result<Vec<u8>, AllocError> {
+    let mut bytes = vec![in alloc; 0u8; count]?;
+    bytes.as_mut_slice().fill(byte);
+    Ok(bytes)
 }
 
 fn words(alloc: Global, list: &[&str]) -> Result<Vec<String>, AllocError> {
@@ -47,135 +48,137 @@ fn run(
     Ok((status, output))
 }
 
+/// Whether a script is run to its end and writes this.
+fn gives(alloc: Global, script: &str, transcript: &str) -> Result<bool, Fail> {
+    let bytes = script.as_bytes().to_vec(alloc)?;
+    let (status, output) = run(alloc, &["run"], bytes, Vec::new(alloc), Vec::new(alloc))?;
+    Ok(status == Status::Done && output.bytes() == transcript.as_bytes())
+}
+
 #[test]
 fn runs_scripts(rt: HostRuntime) -> Result<(), Fail> {
-    let alloc = rt.alloc();
     let cases = [
         // inserts into an empty text, and reads it back
         (HI, HI_TRANSCRIPT),
         // clips inside CR LF
         (
-            "{\"version\":1,\"open\":{\"text\":\"a\\r\\nb\"},\"sessions\":[[{\"do\":\"edit\",\"range\":[0,2,0,2],\"text\":\"x\"}]]}",
-            "{\"end\":{\"count\":1,\"text\":\"ax\\r\\nb\"},\"sessions\":[[{\"at\":1,\"end\":[0,2],\"from\":[0,1],\"hits\":[0,0,0,0],\"to\":[0,1]}]],\"version\":1}\n",
+            r#"{"version":1,"open":{"text":"a\r\nb"},"sessions":[[
+                {"do":"edit","range":[0,2,0,2],"text":"x"}]]}"#,
+            "{\"end\":{\"count\":1,\"text\":\"ax\\r\\nb\"},\"sessions\":[[\
+                {\"at\":1,\"end\":[0,2],\"from\":[0,1],\"hits\":[0,0,0,0],\"to\":[0,1]}]],\"version\":1}\n",
         ),
         // clips inside a surrogate pair
         (
-            "{\"version\":1,\"open\":{\"text\":\"\\ud83d\\ude00\"},\"sessions\":[[{\"do\":\"edit\",\"range\":[0,1,0,1],\"text\":\"x\"}]]}",
-            "{\"end\":{\"count\":1,\"text\":\"x\u{1F600}\"},\"sessions\":[[{\"at\":1,\"end\":[0,1],\"from\":[0,0],\"hits\":[0,0,0,0],\"to\":[0,0]}]],\"version\":1}\n",
+            r#"{"version":1,"open":{"text":"\ud83d\ude00"},"sessions":[[
+                {"do":"edit","range":[0,1,0,1],"text":"x"}]]}"#,
+            "{\"end\":{\"count\":1,\"text\":\"x\u{1F600}\"},\"sessions\":[[\
+                {\"at\":1,\"end\":[0,1],\"from\":[0,0],\"hits\":[0,0,0,0],\"to\":[0,0]}]],\"version\":1}\n",
         ),
         // a range past the end replaces everything
         (
-            "{\"version\":1,\"open\":{\"text\":\"ab\\ncd\"},\"sessions\":[[{\"do\":\"edit\",\"range\":[0,0,9,9],\"text\":\"z\"}]]}",
-            "{\"end\":{\"count\":1,\"text\":\"z\"},\"sessions\":[[{\"at\":1,\"end\":[0,1],\"from\":[0,0],\"hits\":[0,0,0,0],\"to\":[1,2]}]],\"version\":1}\n",
+            r#"{"version":1,"open":{"text":"ab\ncd"},"sessions":[[
+                {"do":"edit","range":[0,0,9,9],"text":"z"}]]}"#,
+            "{\"end\":{\"count\":1,\"text\":\"z\"},\"sessions\":[[\
+                {\"at\":1,\"end\":[0,1],\"from\":[0,0],\"hits\":[0,0,0,0],\"to\":[1,2]}]],\"version\":1}\n",
         ),
         // an empty edit of an empty range, and a script with no commands
         (
-            "{\"version\":1,\"open\":{\"text\":\"ab\"},\"sessions\":[[{\"do\":\"edit\",\"range\":[0,1,0,1],\"text\":\"\"}]]}",
-            "{\"end\":{\"count\":1,\"text\":\"ab\"},\"sessions\":[[{\"at\":1,\"end\":[0,1],\"from\":[0,1],\"hits\":[0,0,0,0],\"to\":[0,1]}]],\"version\":1}\n",
+            r#"{"version":1,"open":{"text":"ab"},"sessions":[[
+                {"do":"edit","range":[0,1,0,1],"text":""}]]}"#,
+            "{\"end\":{\"count\":1,\"text\":\"ab\"},\"sessions\":[[\
+                {\"at\":1,\"end\":[0,1],\"from\":[0,1],\"hits\":[0,0,0,0],\"to\":[0,1]}]],\"version\":1}\n",
         ),
         (
-            "{\"version\":1,\"open\":{\"text\":\"ab\"},\"sessions\":[[]]}",
+            r#"{"version":1,"open":{"text":"ab"},"sessions":[[]]}"#,
             "{\"end\":{\"count\":0,\"text\":\"ab\"},\"sessions\":[[]],\"version\":1}\n",
         ),
     ];
     for (script, transcript) in cases {
-        let bytes = script.as_bytes().to_vec(alloc)?;
-        let (status, output) = run(alloc, &["run"], bytes, Vec::new(alloc), Vec::new(alloc))?;
-        assert_eq!(rt; status, Status::Done);
-        assert_eq!(rt; output.bytes(), transcript.as_bytes());
+        assert!(rt; gives(rt.alloc(), script, transcript)?);
     }
     Ok(())
 }
 
-/// The status of a run and how many bytes it wrote, over an input and an output that fail their
-/// first call or don't.
-fn status_of(
+/// Whether a run ends so and writes so many bytes, over an input and an output whose calls with these
+/// numbers fail.
+fn ends(
     alloc: Global,
     line: &[&str],
-    script: &[u8],
-    read_fails: bool,
-    put_fails: bool,
-) -> Result<(Status, usize), Fail> {
-    let mut reads = Vec::new(alloc);
-    if read_fails {
-        reads.push(1)?;
+    script: &str,
+    fails: (u64, u64),
+    want: (Status, usize),
+) -> Result<bool, Fail> {
+    let bytes = script.as_bytes().to_vec(alloc)?;
+    let (status, output) = run(
+        alloc,
+        line,
+        bytes,
+        call(alloc, fails.0)?,
+        call(alloc, fails.1)?,
+    )?;
+    Ok((status, output.bytes().len()) == want)
+}
+
+/// The list of the number of one call; no call has the number 0.
+fn call(alloc: Global, number: u64) -> Result<Vec<u64>, AllocError> {
+    [number].to_vec(alloc)
+}
+
+fn refused(why: ScriptRule) -> Status {
+    Status::ScriptRefused {
+        session: 0,
+        command: 0,
+        why,
     }
-    let mut puts = Vec::new(alloc);
-    if put_fails {
-        puts.push(1)?;
-    }
-    let (status, output) = run(alloc, line, script.to_vec(alloc)?, reads, puts)?;
-    Ok((status, output.bytes().len()))
 }
 
 #[test]
 fn answers_each_fault(rt: HostRuntime) -> Result<(), Fail> {
-    let not_json = Status::ScriptRefused {
-        session: 0,
-        command: 0,
-        why: ScriptRule::NotJson,
-    };
-    let misshapen = Status::ScriptRefused {
-        session: 0,
-        command: 0,
-        why: ScriptRule::BadShape,
-    };
-    let alloc = rt.alloc();
-    let hi = HI.as_bytes();
-    assert_eq!(rt;
-        status_of(alloc, &[], hi, false, false)?,
-        (Status::Usage, 0)
-    );
-    assert_eq!(rt;
-        status_of(alloc, &["check"], hi, false, false)?,
-        (Status::Usage, 0)
-    );
-    assert_eq!(rt;
-        status_of(alloc, &["run", "run"], hi, false, false)?,
-        (Status::Usage, 0)
-    );
-    assert_eq!(rt;
-        status_of(alloc, &["run"], b"{\"version\":1,", false, false)?,
-        (not_json, 0)
-    );
-    assert_eq!(rt;
-        status_of(alloc, &["run"], b"", false, false)?,
-        (not_json, 0)
-    );
-    assert_eq!(rt;
-        status_of(alloc, &["run"], b"{}", false, false)?,
-        (misshapen, 0)
-    );
-    assert_eq!(rt;
-        status_of(alloc, &["run"], hi, true, false)?,
-        (Status::ReadFault, 0)
-    );
-    assert_eq!(rt;
-        status_of(alloc, &["run"], hi, false, true)?,
-        (Status::WriteFault, 0)
-    );
+    let cases = [
+        (HI, (1, 0), Status::ReadFault, 0),
+        (r#"{"version":1,"#, (0, 0), refused(ScriptRule::NotJson), 0),
+        ("", (0, 0), refused(ScriptRule::NotJson), 0),
+        ("{}", (0, 0), refused(ScriptRule::BadShape), 0),
+        (HI, (0, 1), Status::WriteFault, 0),
+        // the bytes were taken, and their flush fails
+        (HI, (0, 2), Status::WriteFault, HI_TRANSCRIPT.len()),
+        (HI, (0, 3), Status::Done, HI_TRANSCRIPT.len()),
+    ];
+    for (script, fails, status, count) in cases {
+        assert!(rt; ends(rt.alloc(), &["run"], script, fails, (status, count))?);
+    }
+    Ok(())
+}
+
+#[test]
+fn answers_usage_to_other_words(rt: HostRuntime) -> Result<(), Fail> {
+    assert!(rt; ends(rt.alloc(), &[], HI, (0, 0), (Status::Usage, 0))?);
+    assert!(rt; ends(rt.alloc(), &["check"], HI, (0, 0), (Status::Usage, 0))?);
+    assert!(rt; ends(rt.alloc(), &["run", "run"], HI, (0, 0), (Status::Usage, 0))?);
     Ok(())
 }
 
 #[test]
 fn refuses_an_input_past_its_limit(rt: HostRuntime) -> Result<(), Fail> {
-    let alloc = rt.alloc();
-    let spaces = repeated(alloc, b' ', (1 << 26) + 1)?;
-    let (status, output) = run(alloc, &["run"], spaces, Vec::new(alloc), Vec::new(alloc))?;
-    assert_eq!(rt; status, Status::InputTooLong);
-    assert_eq!(rt; output.bytes().len(), 0);
+    let spaces = repeated(rt.alloc(), b' ', (1 << 26) + 1)?;
+    let none = Vec::new(rt.alloc());
+    let (status, output) = run(rt.alloc(), &["run"], spaces, none, Vec::new(rt.alloc()))?;
+    assert!(rt; status == Status::InputTooLong && output.bytes().is_empty());
     Ok(())
+}
+
+/// Whether the stored script is run to its end over an input and an output that never fail.
+fn runs_surely(alloc: Global, words: &[String]) -> Result<bool, Fail> {
+    let mut input = SureSource::new(HI.as_bytes().to_vec(alloc)?);
+    let mut output = SureSink::new(alloc, 4096)?;
+    let status = run_script(alloc, words, &mut input, &mut output);
+    Ok(status == Status::Done && output.bytes() == Some(HI_TRANSCRIPT.as_bytes()))
 }
 
 #[test]
 fn runs_over_sure_twins(rt: HostRuntime) -> Result<(), Fail> {
-    let alloc = rt.alloc();
-    let words = words(alloc, &["run"])?;
-    let mut input = SureSource::new(HI.as_bytes().to_vec(alloc)?);
-    let mut output = SureSink::new(alloc, 4096)?;
-    let status = run_script(alloc, words.as_slice(), &mut input, &mut output);
-    assert_eq!(rt; status, Status::Done);
-    assert!(rt; output.bytes() == Some(HI_TRANSCRIPT.as_bytes()));
+    let words = words(rt.alloc(), &["run"])?;
+    assert!(rt; runs_surely(rt.alloc(), words.as_slice())?);
     Ok(())
 }
 
@@ -217,9 +220,14 @@ fn refuses_an_edit_past_the_limit(rt: HostRuntime) -> Result<(), Fail> {
     Ok(())
 }
 
+/// Whether the program ends with this code and prints this line for a status.
+fn prints(alloc: Global, status: Status, code: u8, line: &str) -> Result<bool, Fail> {
+    let fault = status.fault_line().ok_or("no line")?;
+    Ok(status.code() == code && fault.to_string(alloc)?.as_str() == line)
+}
+
 #[test]
 fn prints_one_line_for_each_fault(rt: HostRuntime) -> Result<(), Fail> {
-    let alloc = rt.alloc();
     let refused = Status::ScriptRefused {
         session: 2,
         command: 7,
@@ -238,12 +246,9 @@ fn prints_one_line_for_each_fault(rt: HostRuntime) -> Result<(), Fail> {
         (Status::NoMemory, 9, "out of memory"),
     ];
     for (status, code, line) in cases {
-        assert_eq!(rt; status.code(), code);
-        let fault = status.fault_line().ok_or("no line")?;
-        assert_eq!(rt; fault.to_string(alloc)?.as_str(), line);
+        assert!(rt; prints(rt.alloc(), status, code, line)?);
     }
-    assert_eq!(rt; Status::Done.code(), 0);
-    assert!(rt; Status::Done.fault_line().is_none());
+    assert!(rt; Status::Done.code() == 0 && Status::Done.fault_line().is_none());
     Ok(())
 }
 
@@ -267,26 +272,36 @@ impl io::Write for Broken {
     }
 }
 
+/// Whether a read answers so many bytes, or fails, and leaves this in the buffer.
+fn reads<I: Source>(
+    source: &mut I,
+    chunk: &mut [u8; 4],
+    answer: Option<usize>,
+    want: &[u8; 4],
+) -> bool {
+    source.read(chunk).ok() == answer && *chunk == *want
+}
+
 #[test]
 fn reads_through_the_adapter(rt: HostRuntime) {
     let mut chunk = [0; 4];
     let mut good = Reading::new(b"abcdef".as_slice());
-    assert_eq!(rt; good.read(&mut chunk), Ok(4));
-    assert_eq!(rt; chunk, *b"abcd");
-    assert_eq!(rt; good.read(&mut chunk), Ok(2));
-    assert_eq!(rt; good.read(&mut chunk), Ok(0));
-    assert_eq!(rt; Reading::new(Broken).read(&mut chunk), Err(Failed));
+    assert!(rt; reads(&mut good, &mut chunk, Some(4), b"abcd"));
+    assert!(rt; reads(&mut good, &mut chunk, Some(2), b"efcd"));
+    assert!(rt; reads(&mut good, &mut chunk, Some(0), b"efcd"));
+    assert!(rt; reads(&mut Reading::new(Broken), &mut chunk, None, b"efcd"));
+}
+
+/// Whether a put and a flush both succeed, or both fail.
+fn writes<O: Sink>(sink: &mut O, bytes: &[u8], succeeds: bool) -> bool {
+    sink.put(bytes).is_ok() == succeeds && sink.flush().is_ok() == succeeds
 }
 
 #[test]
-fn writes_through_the_adapter(rt: HostRuntime) -> Result<(), Fail> {
+fn writes_through_the_adapter(rt: HostRuntime) {
     let mut good = Writing::new(Vec::new(rt.alloc()));
-    assert_eq!(rt; good.put(b"ab"), Ok(()));
-    assert_eq!(rt; good.put(b"c"), Ok(()));
-    assert_eq!(rt; good.flush(), Ok(()));
-    assert_eq!(rt; good.into_writer().as_slice(), b"abc".as_slice());
-    let mut bad = Writing::new(Broken);
-    assert_eq!(rt; bad.put(b"ab"), Err(Failed));
-    assert_eq!(rt; bad.flush(), Err(Failed));
-    Ok(())
+    assert!(rt; writes(&mut good, b"ab", true));
+    assert!(rt; writes(&mut good, b"c", true));
+    assert!(rt; good.into_writer().as_slice() == b"abc".as_slice());
+    assert!(rt; writes(&mut Writing::new(Broken), b"ab", false));
 }

@@ -1,7 +1,7 @@
 -- Counts over several calls in a row: where one of them rose, the count of all rose.
 use Rattle.std.proofs.Common.{◌≡◌, ℕ, ◌<◌, ◌≤◌, arith}
 use Rattle.std.specs.Prelude.{Result, Ok, Err, IsOk, OnErr, refl}
-use Rattle.outer.specs.Count.{LAST, Rose}
+use Rattle.outer.specs.Count.{LAST_COUNT, Rose}
 
 -- calls that came before it
 pub Rose-after : (first before after : ℕ) → first ≤ before → Rose before after → Rose first after
@@ -12,7 +12,7 @@ pub Rose-before : (before after last : ℕ) → before ≤ after → Rose before
 Rose-before before after last grew rose grows = grind arith
 
 -- a count that stays below the greatest one didn't rise where it stayed
-pub Rose-same : (count : ℕ) → count < LAST → Rose count count → ⊥
+pub Rose-same : (count : ℕ) → count < LAST_COUNT → Rose count count → ⊥
 Rose-same count low rose = grind arith
 
 -- a call that answers a fault only where the count rose, and whose count didn't rise, answers no fault

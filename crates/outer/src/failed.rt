@@ -1,3 +1,4 @@
+//! The one fault of the outside world.
 use thiserror::Error;
 
 /// A fault of the outside world: a read, a write or a flush that didn't succeed.

@@ -26,6 +26,3 @@ pub use sink::Sink;
 pub use source::Source;
 pub use sure_sink::SureSink;
 pub use sure_source::SureSource;
-
-#[cfg(test)]
-mod tests;

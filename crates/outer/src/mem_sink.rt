@@ -1,4 +1,6 @@
-ghost use Rattle.std.specs.Prelude.{◌≡◌, ◌≤◌, ◌+◌, ◌||◌, [], ◌++◌, length, nat_lt, Some, is_err, IfOk, OnOk, OnErr};
+//! A sink in memory that fails at the calls that a test names, and past its room.
+ghost use Rattle.std.specs.Prelude.{◌≡◌, ◌≤◌, ◌+◌, ◌||◌, [], ◌++◌, length, nat_lt, Some, is_err};
+ghost use Rattle.std.specs.Prelude.{IfOk, OnOk, OnErr};
 ghost use Rattle.outer.specs.Count.{Rose};
 ghost use Rattle.outer.specs.Plan.{plan_of, is_due, after_call};
 
@@ -54,7 +56,8 @@ impl Sink for MemSink {
     ghost faults = { λ s. s.plan.faults };
 
     fn put(&mut self, bytes: &[u8]) -> Result<(), Failed>
-        ensures fails { is_err result ≡ (is_due self.old.plan || nat_lt self.old.room (length self.old.taken + length bytes.now)) }
+        ensures fails { is_err result ≡ (is_due self.old.plan
+            || nat_lt self.old.room (length self.old.taken + length bytes.now)) }
         ensures plan { self.new.plan ≡ after_call self.old.plan (is_err result) }
         ensures count { self.old.plan.faults ≤ self.new.plan.faults }
         ensures cause { OnErr result (Rose self.old.plan.faults self.new.plan.faults) }

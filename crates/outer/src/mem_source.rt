@@ -1,3 +1,4 @@
+//! A source in memory that fails at the calls that a test names.
 ghost use Rattle.std.specs.Prelude.{◌≡◌, ◌≤◌, ◌++◌, length, min, take, drop, Some, is_err, IfOk, OnErr};
 ghost use Rattle.outer.specs.Count.{Rose};
 ghost use Rattle.outer.specs.Plan.{plan_of, is_due, after_call};

@@ -1,3 +1,4 @@
+//! The plan of a fake: which of its calls fail, by their numbers.
 ghost use Rattle.std.specs.Prelude.{◌≡◌, ◌+◌, ◌≤◌, ◌==◌};
 ghost use Rattle.std.specs.List.{list_any};
 ghost use Rattle.outer.specs.Count.{Rose};
@@ -25,6 +26,7 @@ impl Model for Plan {
 }
 
 impl Plan {
+    /// A plan by which the calls with these numbers fail, before any call.
     pub(crate) fn new(fails: Vec<u64>) -> Self
         ensures { result ≡ plan_of fails.items }
     {
@@ -55,7 +57,7 @@ impl Plan {
     }
 }
 
-/// Tells whether the number of the call behind so many calls is in the list.
+// Tells whether the number of the call behind so many calls is in the list.
 fn has_next(fails: &[u64], calls: u64) -> bool
     ensures { result ≡ list_any (λ n. n == calls + 1) fails.now }
 {

@@ -1,3 +1,4 @@
+//! The bytes that a source in memory has left.
 ghost use Rattle.std.specs.Prelude.{◌≡◌, ◌++◌, length, min, take, drop};
 
 use std::marker::Model;
@@ -21,6 +22,7 @@ impl Model for Remaining {
 }
 
 impl Remaining {
+    /// All these bytes are left.
     pub(crate) fn new(bytes: Vec<u8>) -> Self
         ensures { result ≡ bytes.items }
     {

@@ -1,3 +1,5 @@
+//! Sinks: what takes bytes. A sink may tell the bytes that it took (`taken`), and may stop telling them; contracts then
+//! say what a put appended, after a fault too.
 ghost use Rattle.std.specs.Prelude.{◌≡◌, ℕ, ◌≤◌, List, Option, OnOk, OnErr};
 ghost use Rattle.outer.specs.Count.{Rose};
 ghost use Rattle.outer.specs.Sink.{Appends, AppendsPrefix};

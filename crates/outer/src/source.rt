@@ -1,3 +1,5 @@
+//! Sources: what gives bytes. A source may tell the bytes that it has left (`left`); contracts then say which of them a
+//! read gave, and that it is at its end exactly where none is left.
 ghost use Rattle.std.specs.Prelude.{◌≡◌, ℕ, ◌<◌, ◌≤◌, List, length, take, Option, IfOk, OnErr};
 ghost use Rattle.outer.specs.Count.{Rose};
 ghost use Rattle.outer.specs.Source.{Gives, IsEndOf};

@@ -1,3 +1,4 @@
+//! The bytes that a sink in memory took, up to a room that is taken at the start.
 ghost use Rattle.std.specs.Prelude.{◌≡◌, ◌+◌, [], ◌++◌, length, nat_le, if◌then◌else◌, IfOk};
 
 use points::NoMemory;
@@ -23,6 +24,7 @@ impl Model for Store {
 }
 
 impl Store {
+    /// No bytes yet, with memory for `room` of them.
     pub(crate) fn new(alloc: Global, room: usize) -> Result<Self, NoMemory>
         ensures { IfOk result (λ s. s ≡ record { taken = []; room = room }) }
     {
@@ -44,11 +46,13 @@ impl Store {
         self.bytes.extend_from_slice(bytes).is_ok()
     }
 
+    /// The bytes, lent.
     pub(crate) fn as_slice(&self) -> &[u8]
         ensures { result.now ≡ self.now.taken }
     {
         self.bytes.as_slice()
     }
+
     /// Drops every byte.
     pub(crate) fn clear(&mut self)
         ensures taken { self.new.taken ≡ [] }

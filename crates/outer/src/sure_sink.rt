@@ -1,3 +1,4 @@
+//! A sink in memory that never fails: a caller of the trait is proved to answer no fault over it.
 ghost use Rattle.std.specs.Prelude.{◌≡◌, [], length, Some, IsOk, IfOk};
 ghost use Rattle.std.specs.Option.{option_copied};
 ghost use Rattle.outer.specs.Memory.{within_room};

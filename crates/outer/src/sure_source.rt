@@ -1,3 +1,4 @@
+//! A source in memory that never fails: a caller of the trait is proved to answer no fault over it.
 ghost use Rattle.std.specs.Prelude.{◌≡◌, ◌++◌, length, min, take, drop, Some, IsOkAnd};
 
 use crate::failed::Failed;

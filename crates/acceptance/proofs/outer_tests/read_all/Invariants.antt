@@ -1,7 +1,7 @@
 use Rattle.std.proofs.Common.{ℕ, ◌≤◌, ◌-◌, ◌+◌, length}
 use Rattle.std.specs.Prelude.{vec_len}
 use Rattle.outer.specs.Source.{Gives}
-use Rattle.outer.proofs.tests.read_all.Given as goal
+use Rattle.acceptance.proofs.outer_tests.read_all.Given as goal
 
 abbrev pub invariant-loop-chunk : goal.invariant-loop-chunk
 invariant-loop-chunk g l = record {

@@ -2,7 +2,7 @@ use Rattle.std.proofs.Common.{◌≡◌, List, ℕ, ◌++◌, Option, sym}
 use Rattle.std.specs.Prelude.{Result, Ok, Err, OnErr}
 use Rattle.outer.specs.Sink.{Appends, AppendsPrefix}
 use Rattle.outer.proofs.Appended.{Appends-append, AppendsPrefix-all, AppendsPrefix-append, AppendsPrefix-more}
-use Rattle.outer.proofs.tests.put_both.Goals as goal
+use Rattle.acceptance.proofs.outer_tests.put_both.Goals as goal
 
 -- what holds in any case holds after an error
 on_err : {T E : Type 0} (r : Result T E) (P : Type 0) → P → OnErr r P
