@@ -1,0 +1,5 @@
+mod Seats
+mod HistoryLemmas
+mod MineLemmas
+mod FrameLemmas
+mod LockLemmas

@@ -1,0 +1,8 @@
+//! One lock and one history.
+#![tactic(auto)]
+
+mod object;
+mod view;
+
+pub use object::{Object, Turn};
+pub use view::{Dealer, Desk, DeskRole, Entry, HandRole, HandSeat, Holding, Part, Role, View};
