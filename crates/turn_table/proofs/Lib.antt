@@ -3,3 +3,6 @@ mod HistoryLemmas
 mod MineLemmas
 mod FrameLemmas
 mod LockLemmas
+mod DecideLemmas
+mod SplitLemmas
+mod JoinLemmas
