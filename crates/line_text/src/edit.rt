@@ -10,7 +10,7 @@ ghost use Rattle.line_text.specs.Starts.{starts_from, starts_of, CanMove};
 use crate::encode::{Size, write_units};
 use crate::ending::LINE_FEED;
 use crate::rows::Rows;
-use points::NoMemory;
+use points::{MAX_UNITS, NoMemory};
 use std::alloc::Global;
 
 /// Replaces the units from `from` up to `to` by those of `text`, and mends the starts.
@@ -23,11 +23,11 @@ pub(crate) fn replace_units(
     size: Size,
 ) -> Result<(), NoMemory>
     requires kept { starts.old.items ≡ starts_of units.old.items }
-    requires short { vec_len units.old ≤ 2 ^ 24 }
+    requires short { vec_len units.old ≤ MAX_UNITS }
     requires order { from ≤ to }
     requires within { to ≤ vec_len units.old }
     requires sized { size ≡ size_of (utf16_of text.now) }
-    requires fits { vec_len units.old + size.units ≤ 2 ^ 24 + (to - from) }
+    requires fits { vec_len units.old + size.units ≤ MAX_UNITS + (to - from) }
     ensures ok { OnOk result (units.new.items ≡ replaced units.old.items from to (utf16_of text.now)) }
     ensures ok_starts { OnOk result (starts.new.items ≡ starts_of units.new.items) }
     ensures err { OnErr result (units.new.items ≡ units.old.items) }
@@ -52,7 +52,7 @@ pub(crate) fn replace_units(
 
 /// The starts of the rows of these units.
 pub(crate) fn starts_of(alloc: Global, units: &[u16]) -> Result<Vec<u32>, NoMemory>
-    requires { length units.now ≤ 2 ^ 24 }
+    requires { length units.now ≤ MAX_UNITS }
     ensures { IfOk result (λ starts. starts.items ≡ starts_of units.now) }
 {
     let mut starts = Vec::new(alloc);
@@ -73,7 +73,7 @@ fn count_feeds(units: &[u16]) -> usize
 // The rows in which the offsets `from` and `to` lie.
 fn rows_between(units: &[u16], starts: &[u32], from: usize, to: usize) -> (usize, usize)
     requires kept { starts.now ≡ starts_of units.now }
-    requires short { length units.now ≤ 2 ^ 24 }
+    requires short { length units.now ≤ MAX_UNITS }
     requires order { from ≤ to }
     requires within { to ≤ length units.now }
     ensures first { result.0 ≡ count_by is_lf (take from units.now) }

@@ -10,11 +10,9 @@ mod encode;
 mod ending;
 mod refusal;
 mod rows;
-#[cfg(test)]
-mod tests;
 mod text;
 
 pub use ending::Ending;
 pub use refusal::TextRefusal;
 pub use rows::splits_pair;
-pub use text::{LineText, MAX_UNITS, Replaced};
+pub use text::{LineText, Replaced};

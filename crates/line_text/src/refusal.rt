@@ -7,7 +7,7 @@ use thiserror::Error;
 /// Why a text was not made or not edited. It is then as it was.
 #[derive(Clone, Copy, Debug, PartialEq, Eq, Error)]
 pub enum TextRefusal {
-    /// It would have more than [`MAX_UNITS`](crate::MAX_UNITS) units.
+    /// It would have more than [`MAX_UNITS`](points::MAX_UNITS) units.
     #[error("the text would be too long")]
     TooLong,
     /// There was no memory for it.

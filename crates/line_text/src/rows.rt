@@ -6,6 +6,7 @@ ghost use Rattle.std.specs.Prelude.{◌≡◌, ℕ, ◌+◌, ◌-◌, ◌<◌, �
 ghost use Rattle.std.specs.Char.Utf16.{is_high_surrogate, is_low_surrogate};
 ghost use Rattle.points.specs.Text.{is_lf};
 ghost use Rattle.points.specs.Place.{extent, point_at, offset_of, row_of, row_start, ends_with_cr, line_of, splits_pair, clipped_column, clip, clipped_offset};
+ghost use Rattle.points.specs.declared.limits.TheConstants.{MAX_UNITS};
 ghost use Rattle.line_text.specs.Ending.{ending_of};
 ghost use Rattle.line_text.specs.Starts.{starts_of};
 
@@ -18,7 +19,7 @@ pub(crate) struct Rows<'a> {
     pub(crate) units: &'a [u16],
     pub(crate) starts: &'a [u32],
     ghost kept: { starts.now ≡ starts_of units.now },
-    ghost short: { length units.now ≤ 2 ^ 24 },
+    ghost short: { length units.now ≤ MAX_UNITS },
 }
 
 impl<'a> Rows<'a> {

@@ -1,4 +1,4 @@
-ghost use Rattle.std.specs.Prelude.{◌≡◌, ℕ, ◌+◌, ◌<◌, ◌≤◌, ◌↔◌, ◌^◌, List, length, slice_range, string_bytes, Option, IsNone, IfSome, IfOk, OnOk, OnErr};
+ghost use Rattle.std.specs.Prelude.{◌≡◌, ℕ, ◌+◌, ◌<◌, ◌≤◌, ◌↔◌, List, length, slice_range, string_bytes, Option, IsNone, IfSome, IfOk, OnOk, OnErr};
 ghost use Rattle.points.specs.Text.{IsWellFormed, text_of, utf16_of, replaced};
 ghost use Rattle.points.specs.Place.{extent, point_at, offset_of, line_of, clip, clipped_offset};
 ghost use Rattle.line_text.specs.Ending.{ending_of};
@@ -8,12 +8,9 @@ use crate::encode::size_within;
 use crate::ending::Ending;
 use crate::refusal::TextRefusal;
 use crate::rows::Rows;
-use points::{NoMemory, Point, Range, Units};
+use points::{MAX_UNITS, NoMemory, Point, Range, Units};
 use std::alloc::Global;
 use std::marker::Model;
-
-/// The most units that a text may have: 2^24.
-pub const MAX_UNITS: usize = 1 << 24;
 
 /// A text: a list of at most [`MAX_UNITS`] UTF-16 units, with the starts of its rows.
 #[derive(Debug, Drop)]
@@ -24,14 +21,15 @@ pub struct LineText {
 }
 
 impl Model for LineText {
-    ghost use Rattle.std.specs.Prelude.{◌≡◌, ◌≤◌, ◌^◌, ℕ, List, length};
+    ghost use Rattle.std.specs.Prelude.{◌≡◌, ◌≤◌, ℕ, List, length};
+    ghost use Rattle.points.specs.declared.limits.TheConstants.{MAX_UNITS};
     ghost use Rattle.line_text.specs.Starts.{starts_of};
 
     ghost Value = { List ℕ };
 
     ghost view = { λ t. t.units.items };
 
-    ghost invariant = { λ t. (t.starts.items ≡ starts_of t.units.items) × (length t.units.items ≤ 2 ^ 24) };
+    ghost invariant = { λ t. (t.starts.items ≡ starts_of t.units.items) × (length t.units.items ≤ MAX_UNITS) };
 }
 
 /// Where a replacement was made: the clipped ends of its range in the text before it, and the end
@@ -47,7 +45,7 @@ impl LineText {
     /// The UTF-16 encoding of `text`.
     pub fn from_str(alloc: Global, text: &str) -> Result<Self, TextRefusal>
         ensures ok { IfOk result (λ made. made ≡ utf16_of text.now) }
-        ensures too_long { (result ≡ Err TextRefusal.TooLong) ↔ (2 ^ 24 < length (utf16_of text.now)) }
+        ensures too_long { (result ≡ Err TextRefusal.TooLong) ↔ (MAX_UNITS < length (utf16_of text.now)) }
         ensures well_formed { IfOk result (λ made. IsWellFormed made) }
     {
         let Some(size) = size_within(text, MAX_UNITS) else {
@@ -62,7 +60,7 @@ impl LineText {
     /// The text of these units. They need not be well-formed.
     pub fn from_units(units: Units) -> Result<Self, TextRefusal>
         ensures ok { IfOk result (λ made. made ≡ units) }
-        ensures too_long { (result ≡ Err TextRefusal.TooLong) ↔ (2 ^ 24 < length units) }
+        ensures too_long { (result ≡ Err TextRefusal.TooLong) ↔ (MAX_UNITS < length units) }
     {
         if units.len() > MAX_UNITS {
             return Err(TextRefusal::TooLong);
@@ -75,7 +73,7 @@ impl LineText {
     /// How many units there are, at most [`MAX_UNITS`].
     pub fn len(&self) -> usize
         ensures value { result ≡ length self.now }
-        ensures short { result ≤ 2 ^ 24 }
+        ensures short { result ≤ MAX_UNITS }
     {
         self.rows_kept().units.len()
     }
@@ -169,7 +167,7 @@ impl LineText {
         ensures to { IfOk result (λ at. at.to ≡ clip self.old range.end) }
         ensures end { IfOk result (λ at. at.end ≡ point_at self.new
             (clipped_offset self.old range.start + length (utf16_of text.now))) }
-        ensures too_long { (result ≡ Err TextRefusal.TooLong) ↔ (2 ^ 24 < length (replaced self.old
+        ensures too_long { (result ≡ Err TextRefusal.TooLong) ↔ (MAX_UNITS < length (replaced self.old
             (clipped_offset self.old range.start) (clipped_offset self.old range.end) (utf16_of text.now))) }
         ensures err { OnErr result (self.new ≡ self.old) }
         ensures well_formed { IsWellFormed self.old → OnOk result (IsWellFormed self.new) }

@@ -1,5 +1,5 @@
-use crate::{Ending, LineText, MAX_UNITS, Replaced, TextRefusal};
-use points::{Point, Range, Units};
+use line_text::{Ending, LineText, Replaced, TextRefusal};
+use points::{MAX_UNITS, Point, Range, Units};
 use std::alloc::Global;
 use std::process::Abort;
 use std::test::Fail;
