@@ -19,7 +19,7 @@ use Rattle.turn_table.specs.Meaning.{Meaning, names}
 use Rattle.turn_table.specs.History.{entry, state_after, is_call_of, IsCalled}
 use Rattle.turn_table.specs.Views.{view, holding, hand, first_number, caller, stands_for, has_hand, AreBelow, Mine, added, Numbered, Each, OneSeat}
 use Rattle.turn_table.specs.Rule.{desks_of, hands_of, History, Desks, Hands, Kept}
-use Rattle.turn_table.specs.Turns.{Outs}
+use Rattle.turn_table.specs.Turns.{MayDecide}
 use Rattle.turn_table.specs.Steps.{held_after, role_after, decided, Decides}
 use Rattle.turn_table.proofs.Seats.{here, each_set, each_other, one_set}
 use Rattle.turn_table.proofs.HistoryLemmas.{prefix_self, prefix_nil, prefix_push, state_after-append, legal_push, called_push, counted}
@@ -35,12 +35,6 @@ caller_below {T} k n (Desk d) b e = first d.parts b e where
 caller_below k n (Hand h) b e = absurd cc
 caller_below k n (Deals d) b e = absurd cc
 caller_below k n Nothing b e = absurd cc
-
--- what a call is to a seat that may make it: a numbered call is signed, and a hand's number is given back by that hand alone
-pub record MayDecide {T S : Type 0} (m : Meaning T S) (x : S) (k back : Maybe ℕ) (t : T) (r : Role T) : Type 0 where
-  pub signed : m.is_numbered t ≡ true → (n : ℕ) × (caller r ≡ Some n)
-  pub own : (b : ℕ) → back ≡ Some b → r ≡ hand b
-  pub outs : Outs m x k back (m.after x t)
 
 module _ {T S : Type 0} (m : Meaning T S) (back : Maybe ℕ) (t : T) where
   -- the role behind the call has no more numbers than before

@@ -14,7 +14,8 @@ use Rattle.turn_table.specs.declared.view.Role.{Role}
 use Rattle.turn_table.specs.declared.view.Role.TheVariants.{Desk, Hand, Deals, Nothing}
 use Rattle.turn_table.specs.declared.view.Holding.{Holding}
 use Rattle.turn_table.specs.declared.view.View.{View}
-use Rattle.turn_table.specs.Meaning.{Meaning, names, first_free, lowest, HasRoom, hand_limit}
+use Rattle.turn_table.specs.Meaning.{Meaning, names, first_free, lowest, HasRoom}
+use Rattle.points.specs.declared.limits.TheConstants.{MAX_HANDS}
 use Rattle.turn_table.specs.Views.{view, holding, part, desk, hand, deals, is_within, has_part, stands_for, has_hand, AreApart, AllMine, Mine, Numbered, Each, OneSeat}
 use Rattle.turn_table.specs.Rule.{desks_of, hands_of, History, Desks, Hands, Kept, first_view}
 use Rattle.turn_table.specs.Turns.{made_by, number_by, maker, new_hand}
@@ -26,6 +27,7 @@ use Rattle.turn_table.proofs.FrameLemmas.{lock_set, lock_push, history_set, hist
 
 -- the first number that isn't taken isn't, where it is one of those that were tried
 first_is_free : (taken : ℕ → Bool) (k n : ℕ) → first_free taken k n < n + k → taken (first_free taken k n) ≡ false
+unfolding first_free
 first_is_free taken zero n below = absurd (omega arith)
 first_is_free taken (suc k) n below = cases (taken n) refl (λ (l : first_free taken k (n + 1) < (n + 1) + k). first_is_free taken k (n + 1) l) where
   cases : (b : Bool) → taken n ≡ b → (first_free taken k (n + 1) < (n + 1) + k → taken (first_free taken k (n + 1)) ≡ false) → taken (cond (taken n) (first_free taken k (n + 1)) n) ≡ false
@@ -34,7 +36,7 @@ first_is_free taken (suc k) n below = cases (taken n) refl (λ (l : first_free t
   cases false e rest = ap (λ b. taken (cond b (first_free taken k (n + 1)) n)) e ∙ e
 
 pub lowest_is_free : {T S : Type 0} (m : Meaning T S) (x : S) → HasRoom m x → m.is_out x (lowest m x) ≡ false
-lowest_is_free m x room = first_is_free (m.is_out x) hand_limit 0 (bound (lowest m x) hand_limit room) where
+lowest_is_free m x room = first_is_free (m.is_out x) MAX_HANDS 0 (bound (lowest m x) MAX_HANDS room) where
   bound : (a b : ℕ) → a < b → a < 0 + b
   bound a b h = omega arith
 

@@ -1,5 +1,6 @@
 -- What an object means as plain data: T is an entry, a call with its reply, and S is a state.
 use Rattle.std.specs.Prelude.{◌≡◌, ℕ, zero, suc, ◌+◌, ◌<◌, ◌==◌, Bool, true, false, cond, Option, None, Some, MatchOption}
+use Rattle.points.specs.declared.limits.TheConstants.{MAX_HANDS}
 
 pub record Meaning (T S : Type 0) : Type 0 where
   -- what the call of an entry makes of it at a state: the entry with its one reply, or nothing where the state doesn't fix the reply
@@ -11,16 +12,12 @@ pub record Meaning (T S : Type 0) : Type 0 where
   -- which hand numbers are out
   pub is_out : S → ℕ → Bool
 
--- the hand numbers that a table may have are below this
-abbrev pub hand_limit : ℕ
-hand_limit = 32
-
 abbrev pub names : Option ℕ → ℕ → Bool
 names None n = false
 names (Some k) n = k == n
 
 -- the first number from n on, among k, that isn't taken; n + k where all are
-abbrev pub first_free : (ℕ → Bool) → ℕ → ℕ → ℕ
+unfoldable pub first_free : (ℕ → Bool) → ℕ → ℕ → ℕ
 first_free taken zero n = n
 first_free taken (suc k) n = cond (taken n) (first_free taken k (n + 1)) n
 
@@ -31,8 +28,8 @@ module _ {T S : Type 0} (m : Meaning T S) where
 
   -- the lowest hand number that isn't out
   abbrev pub lowest : S → ℕ
-  lowest x = first_free (m.is_out x) hand_limit 0
+  lowest x = first_free (m.is_out x) MAX_HANDS 0
 
   -- a hand can be made
   abbrev pub HasRoom : S → Type 0
-  HasRoom x = lowest x < hand_limit
+  HasRoom x = lowest x < MAX_HANDS

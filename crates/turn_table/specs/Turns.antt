@@ -1,10 +1,11 @@
 -- What a call under the lock can do beside its own work: make a hand.
-use Rattle.std.specs.Prelude.{◌≡◌, ℕ, ◌&&◌, ◌||◌, not, Bool, List, Option, None, Some, MatchOption}
+use Rattle.std.specs.Prelude.{◌≡◌, ℕ, ◌&&◌, ◌||◌, not, Bool, true, List, [], ◌∷◌, Option, None, Some, MatchOption}
 use Rattle.atomic_table.specs.Seated.{TableId}
 use Rattle.turn_table.specs.declared.view.Holding.{Holding}
 use Rattle.turn_table.specs.declared.view.View.{View}
 use Rattle.turn_table.specs.Meaning.{Meaning, names, lowest, HasRoom}
-use Rattle.turn_table.specs.Views.{view, holding, hand}
+use Rattle.turn_table.specs.declared.view.Role.{Role}
+use Rattle.turn_table.specs.Views.{view, holding, hand, caller}
 
 -- which table a turn belongs to and which seat plays it, with what that seat has taken out
 pub record About (O : Type 0) : Type 0 where
@@ -49,3 +50,25 @@ module _ {T S : Type 0} (m : Meaning T S) where
   -- exactly these hands are out at y: the one that was made, and those that were out at x but the one that was given back
   abbrev pub Outs : S → Option ℕ → Option ℕ → S → Type 0
   Outs x made back y = (n : ℕ) → m.is_out y n ≡ (names made n || (m.is_out x n && not (names back n)))
+
+  -- What a call is to a seat that may make it: a numbered call is signed, and a hand's number is given back by that hand alone. After it exactly these hands are out
+  pub record MayDecide (x : S) (made back : Option ℕ) (t : T) (r : Role T) : Type 0 where
+    pub signed : m.is_numbered t ≡ true → (n : ℕ) × (caller r ≡ Some n)
+    pub own : (b : ℕ) → back ≡ Some b → r ≡ hand b
+    pub outs : Outs x made back (m.after x t)
+
+  -- the holder may make the entry
+  pub record IsDecidable (Legal : S → T → Type 0) (asked : Option T) (back : Option ℕ) (v : View T S) : Type 0 where
+    pub entry : T
+    pub state : S
+    pub made : Option ℕ
+    pub asked_is : asked ≡ Some entry
+    pub holds : v.holds ≡ holding state made
+    pub legal : Legal state entry
+    pub may : MayDecide state made back entry v.role
+
+  -- the holder may put back an object with this state
+  pub record MayLetGo (x : S) (v : View T S) : Type 0 where
+    pub made : Option ℕ
+    pub holds : v.holds ≡ holding x made
+    pub out : (n : ℕ) → made ≡ Some n → m.is_out x n ≡ true

@@ -2,6 +2,7 @@
 #![tactic(auto)]
 
 mod object;
+mod rule;
 mod view;
 
 pub use object::{Object, Turn};

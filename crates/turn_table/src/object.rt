@@ -2,7 +2,7 @@
 ghost use Rattle.std.specs.Prelude.{◌≡◌, ℕ, Bool, true, Option, None, Some, IfOk, IfErr, IsOk, MatchOption, [], ◌∷◌};
 ghost use Rattle.atomic_table.specs.Seated.{TableId};
 ghost use Rattle.turn_table.specs.declared.view.View.{View};
-ghost use Rattle.turn_table.specs.Meaning.{Meaning, MayFollow};
+ghost use Rattle.turn_table.specs.Meaning.{Meaning, MayFollow, HasRoom};
 ghost use Rattle.turn_table.specs.Views.{holding};
 ghost use Rattle.turn_table.specs.Turns.{About, IsReady, MayMake, maker, new_hand, made_of, Outs};
 
@@ -64,7 +64,7 @@ pub trait Object: Send + Drop {
         requires held { (T.view turn.old).holds ≡ holding (state self.old) None }
         ensures same { T.about turn.new ≡ T.about turn.old }
         ensures ok { IfOk result (λ r. MayFollow meaning Meets (state self.old) (told call r) × (state self.new ≡ meaning.after (state self.old) (told call r))) }
-        ensures hand { IfOk result (λ r. MatchOption (given r) (T.view turn.new ≡ T.view turn.old) (λ h. (h ≡ ((T.about turn.old).table, new_hand meaning (T.view turn.old))) × (T.view turn.new ≡ maker meaning (T.view turn.old)))) }
+        ensures hand { IfOk result (λ r. MatchOption (given r) (T.view turn.new ≡ T.view turn.old) (λ h. (h ≡ ((T.about turn.old).table, new_hand meaning (T.view turn.old))) × (T.view turn.new ≡ maker meaning (T.view turn.old)) × HasRoom meaning (state self.old))) }
         ensures outs { IfOk result (λ r. Outs meaning (state self.old) (made_of (T.view turn.new)) (back call) (state self.new)) }
         ensures err { IfErr result (λ c. (c ≡ call) × (state self.new ≡ state self.old) × (T.view turn.new ≡ T.view turn.old)) }
         ensures free { is_free call ≡ true → IsOk result };
