@@ -6,3 +6,4 @@ mod LockLemmas
 mod DecideLemmas
 mod SplitLemmas
 mod JoinLemmas
+mod CallLemmas
