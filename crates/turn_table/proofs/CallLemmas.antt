@@ -4,6 +4,7 @@ use Rattle.std.specs.Prelude.{Option as Maybe, filter}
 use Rattle.std.proofs.lemmas.List.{append-nil}
 use Rattle.std.proofs.lemmas.List.Elements.{filter-append}
 use mathlib.Core.List.{IsPrefix}
+use Rattle.atomic_table.specs.Table.{Me}
 use Rattle.turn_table.specs.declared.view.Entry.{Entry}
 use Rattle.turn_table.specs.declared.view.Part.{Part}
 use Rattle.turn_table.specs.declared.view.Role.{Role}
@@ -14,7 +15,7 @@ use Rattle.turn_table.specs.History.{entry, state_after, IsLegal, AreCalled}
 use Rattle.turn_table.specs.Views.{view, holding, part, desk, hand, caller, stands_for, added, Mine, Numbered}
 use Rattle.turn_table.specs.Tokens.{IsDesk, stands_by, is_own, mine, Knows}
 use Rattle.turn_table.specs.Turns.{number_by, new_hand, MayDecide}
-use Rattle.turn_table.specs.Steps.{let_go, role_after, decided, joined, longer, shorter, Saw}
+use Rattle.turn_table.specs.Steps.{let_go, role_after, decided, joined, longer, shorter, Grabbed, Saw}
 use Rattle.turn_table.specs.Calls.{Began, Took, Looked, Joined}
 use Rattle.turn_table.proofs.HistoryLemmas.{legal_push, called_push}
 use Rattle.turn_table.proofs.MineLemmas.{caller_stands, stands_added, none_between, either_bool}
@@ -112,3 +113,15 @@ module _ {T S : Type 0} (m : Meaning T S) where
       rests = saw.holds ∙ rests;
       knows = subst (λ (z : Maybe S). IfSome z (λ y. Knows m Legal y desks w)) is saw.now;
     }
+
+    -- a seat that took the lock
+    pub began : {O : Type 0} (state : O → S) (asked : Maybe S) (a b : Me (Maybe O) (View T S)) (o : O) → asked ≡ Some start → (g : Grabbed m Legal state asked desks a b) → g.object ≡ o → Began m Legal start desks (state o) a.0 b.0
+    began {O} state asked a b o is g same =
+        let now = subst (λ (z : Maybe S). IfSome z (λ y. (state_after m y b.0.seen ≡ state g.object) × Knows m Legal y desks b.0)) is g.now in record {
+          sees = g.sees;
+          role = g.role;
+          holds = g.holds ∙ ap (λ (z : O). holding (state z) None) same;
+          now = now.0 ∙ ap state same;
+          knows = now.1;
+          was = g.was;
+        }

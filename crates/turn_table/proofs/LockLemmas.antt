@@ -170,3 +170,10 @@ module _ {O T S : Type 0} (m : Meaning T S) (Legal : S → T → Type 0) (state 
     },
     refl,
   )
+
+  -- the same with the number of desks that the call picks
+  pub grabs_as : (slots id : ℕ) (me : M) (asked : Maybe S) (told : ℕ) → asked ≡ Some start → told ≡ desks → Allows Rule slots id me 0 (λ n. either (eqb n 0) 1 n) (Grabs m Legal state asked told (step slots 0 0 1 none) me)
+  grabs_as slots id me asked told is same = subst (λ (d : ℕ). Allows Rule slots id me 0 (λ n. either (eqb n 0) 1 n) (Grabs m Legal state asked d (step slots 0 0 1 none) me)) (sym same) (grabs slots id me asked is)
+
+  pub sees_as : (slots id : ℕ) (me : M) (asked : Maybe S) (told : ℕ) → asked ≡ Some start → told ≡ desks → me.0.holds ≡ None → Allows Rule slots id me 0 (λ n. n) (Sees m Legal asked told (step slots 0 0 0 none) me)
+  sees_as slots id me asked told is same rests = subst (λ (d : ℕ). Allows Rule slots id me 0 (λ n. n) (Sees m Legal asked d (step slots 0 0 0 none) me)) (sym same) (sees slots id me asked is rests)

@@ -1,6 +1,7 @@
 //! One lock and one history.
 #![tactic(auto)]
 
+mod hold;
 mod object;
 mod rule;
 mod table;
