@@ -16,7 +16,7 @@ use Rattle.turn_table.specs.Views.{view, holding, part, desk, hand, caller, stan
 use Rattle.turn_table.specs.Tokens.{IsDesk, stands_by, is_own, mine, Knows}
 use Rattle.turn_table.specs.Turns.{number_by, new_hand, MayDecide}
 use Rattle.turn_table.specs.Steps.{let_go, role_after, decided, joined, longer, shorter, Grabbed, Saw}
-use Rattle.turn_table.specs.Calls.{Began, Took, Looked, Joined}
+use Rattle.turn_table.specs.Calls.{MayCall, Began, Played, Took, Looked, Joined}
 use Rattle.turn_table.proofs.HistoryLemmas.{legal_push, called_push}
 use Rattle.turn_table.proofs.MineLemmas.{caller_stands, stands_added, none_between, either_bool}
 use Rattle.turn_table.proofs.LockLemmas.{knows_of}
@@ -125,3 +125,8 @@ module _ {T S : Type 0} (m : Meaning T S) where
           knows = now.1;
           was = g.was;
         }
+
+    -- a call that was played, and the lock let go
+    pub took_played : {R : Type 0} (told : R → T) (r : R) (back : Maybe ℕ) (given : Maybe (View T S)) (x : S) (v g d w : View T S) → Began m Legal start desks x v g → MayCall m told back v.role → Played m Legal back given (told r) x g d → w ≡ let_go d
+        → Took m Legal start desks back given (told r) v w
+    took_played told r back given x v g d w b may p is = took back given (told r) x v g w b p.legal (may.signed r) (ap (λ (z : View T S). z.seen) is ∙ p.seen) (ap (λ (z : View T S). z.role) is ∙ p.role) (ap (λ (z : View T S). z.holds) is) p.hand_is

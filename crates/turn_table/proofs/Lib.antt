@@ -6,4 +6,5 @@ mod LockLemmas
 mod DecideLemmas
 mod SplitLemmas
 mod JoinLemmas
+mod HoldLemmas
 mod CallLemmas

@@ -4,11 +4,13 @@ use mathlib.Core.List.{IsPrefix}
 use Rattle.atomic_table.specs.Table.{Me}
 use Rattle.turn_table.specs.declared.view.Entry.{Entry}
 use Rattle.turn_table.specs.declared.view.Part.{Part}
+use Rattle.turn_table.specs.declared.view.Role.{Role}
 use Rattle.turn_table.specs.declared.view.View.{View}
 use Rattle.turn_table.specs.Meaning.{Meaning, lowest, HasRoom}
 use Rattle.turn_table.specs.History.{entry, state_after}
 use Rattle.turn_table.specs.Views.{view, holding, part, desk, hand, caller, Mine}
 use Rattle.turn_table.specs.Tokens.{mine, Knows}
+use Rattle.turn_table.specs.Turns.{new_hand}
 use Rattle.turn_table.specs.Steps.{role_after, parts_of}
 
 module _ {V : Type 0} where
@@ -21,11 +23,17 @@ module _ {V : Type 0} where
   Has P views = (v : V) × (views ≡ v ∷ []) × P v
 
 module _ {T S : Type 0} (m : Meaning T S) where
-  -- a seat may make the call, whatever its reply: it holds nothing, a numbered call is signed, and a hand's number is given back by that hand alone
-  pub record MayCall {R : Type 0} (told : R → T) (back : Maybe ℕ) (v : View T S) : Type 0 where
-    pub rests : v.holds ≡ None
-    pub signed : (r : R) → m.is_numbered (told r) ≡ true → (n : ℕ) × (caller v.role ≡ Some n)
-    pub own : (b : ℕ) → back ≡ Some b → v.role ≡ hand b
+  -- a seat with this role may make the call, whatever its reply: a numbered call is signed, and a hand's number is given back by that hand alone
+  pub record MayCall {R : Type 0} (told : R → T) (back : Maybe ℕ) (r : Role T) : Type 0 where
+    pub signed : (a : R) → m.is_numbered (told a) ≡ true → (n : ℕ) × (caller r ≡ Some n)
+    pub own : (b : ℕ) → back ≡ Some b → r ≡ hand b
+
+  -- the holder g played a call on the object at x, which is at y now, and the call's entry is the last of the history
+  pub record Played (Legal : S → T → Type 0) (back : Maybe ℕ) (given : Maybe (View T S)) (t : T) (x : S) (g w : View T S) : Type 0 where
+    pub legal : Legal x t
+    pub seen : w.seen ≡ g.seen ++ entry (caller g.role) t ∷ []
+    pub role : w.role ≡ role_after m back t g.role
+    pub hand_is : IfSome given (λ h. (h ≡ new_hand m g) × HasRoom m x)
 
   module _ (Legal : S → T → Type 0) (start : S) (desks : ℕ) where
     -- the seat g has the lock, and has seen the whole history, which begins with all that the seat had seen as v. The object's state x is that behind it

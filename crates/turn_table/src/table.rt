@@ -13,6 +13,7 @@ use atomic_table::{Seat, Table};
 use std::alloc::Global;
 use std::hint::spin_loop;
 use std::marker::Brand;
+use std::snapshot::Snapshot;
 use std::sync::Wait;
 use std::thread::yield_now;
 
@@ -70,13 +71,21 @@ impl<O: Object> TurnTable<O> {
         self.table.shared.exchange(seat, 0, None).unwrap()
     }
 
-    // Makes a call the last entry of the history.
-    pub(crate) fn decide<A: Asking<O::Told>>(&self, seat: &mut Seat<Option<O>, View<O::Told, O::State>>)
+    // Makes the call that was played the last entry of the history.
+    pub(crate) fn decide<A: Asking<O::Told>>(
+        &self,
+        seat: &mut Seat<Option<O>, View<O::Told, O::State>>,
+        asked: &Snapshot<O::Call>,
+        reply: &O::Reply,
+    )
         requires table { seat.old.table_id ≡ self.now.table.shared.table_id }
+        requires entry { A.entry ≡ Some (O.told asked.now.value reply.now) }
         requires may { IsDecidable O.meaning (MayFollow O.meaning O.Meets) A.entry A.back seat.old.me.0 }
         ensures id { (seat.new.table_id ≡ seat.old.table_id) × (seat.new.id ≡ seat.old.id) }
-        ensures entry { IfSome A.entry (λ t. seat.new.me ≡ (decided O.meaning A.back t seat.old.me.0, seat.old.me.1)) }
+        ensures entry { seat.new.me ≡ (decided O.meaning A.back (O.told asked.now.value reply.now) seat.old.me.0, seat.old.me.1) }
     {
+        let _ = asked;
+        let _ = reply;
         self.table.shared.fetch_add::<Decide<O, A>>(seat, 1, 1);
     }
 
