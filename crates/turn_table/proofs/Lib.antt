@@ -8,3 +8,5 @@ mod SplitLemmas
 mod JoinLemmas
 mod HoldLemmas
 mod CallLemmas
+mod OpenLemmas
+mod DeskLemmas

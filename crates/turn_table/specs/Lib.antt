@@ -6,3 +6,4 @@ pub mod Tokens
 pub mod Steps
 pub mod Turns
 pub mod Calls
+pub mod Openings
