@@ -13,7 +13,7 @@ use Rattle.turn_table.specs.Steps.{parts_of, role_after, both_roles}
 use Rattle.turn_table.specs.Calls.{Has, Turned, MayCall, Took, Looked, Joined}
 
 module _ {V : Type 0} where
-  one_head : (a b : V) → a ∷ [] ≡ b ∷ [] → a ≡ b
+  pub one_head : (a b : V) → a ∷ [] ≡ b ∷ [] → a ≡ b
   one_head a b e = ap (head_or a) e where
     head_or : V → List V → V
     head_or d [] = d

@@ -1,5 +1,6 @@
 -- Seats that are dealt one by one.
-use Rattle.std.proofs.Common.{◌≡◌, ℕ, zero, suc, ◌+◌, ◌<◌, ◌≤◌, ◌≢◌, List, [], ◌∷◌, ◌++◌, length, get_or, refl, sym, ap, ◌∙◌, subst, arith, length-append}
+use Rattle.std.proofs.Common.{◌≡◌, ℕ, zero, suc, ◌+◌, ◌<◌, ◌≤◌, ◌≢◌, true, nat_lt, List, [], ◌∷◌, ◌++◌, length, get_or, refl, sym, ap, ◌∙◌, subst, arith, length-append}
+use Rattle.std.proofs.lemmas.Bool.Decides.{nat_tests}
 use mathlib.Core.Logic.{dite}
 use native.Mathlib.Decide.{ℕ_discrete}
 use Rattle.atomic_table.specs.Seated.{TableId}
@@ -36,3 +37,6 @@ module _ {T S : Type 0} (table : TableId) (at : ℕ → View T S) where
         (λ (e : k ≡ n). ap (λ (z : Badge (View T S)). z.table_id) (read_last seats b d k (omega arith)) ∙ tables)
         (λ (ne : k ≢ n). ap (λ (z : Badge (View T S)). z.table_id) (read_before seats b d k (omega arith)) ∙ all.tables k d (omega arith));
   }
+
+pub below_true : (n k : ℕ) → n < k → nat_lt n k ≡ true
+below_true n k h = grind (arith, nat_tests)
