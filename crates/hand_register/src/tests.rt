@@ -73,7 +73,9 @@ fn given_back<R: Wait>(rt: &R, table: &Table, hand: Hand, number: u32) -> bool
     requires { IsHandAt table.now.table.shared.table_id number hand }
 {
     let mut hand = hand;
-    table.with_hand(rt, &mut hand, Call::GiveBack(number)).is_ok()
+    table
+        .with_hand(rt, &mut hand, Call::GiveBack(number))
+        .is_ok()
 }
 
 // What a session brings back: its desk and the numbers that its calls answered.
@@ -115,7 +117,12 @@ fn ended(table: &Table, one: Session, other: Session) -> Session
 {
     let mut one = one;
     table.end(other.desk, &mut one.desk);
-    one.rising = one.rising && other.rising && one.numbers.extend_from_slice(other.numbers.as_slice()).is_ok();
+    one.rising = one.rising
+        && other.rising
+        && one
+            .numbers
+            .extend_from_slice(other.numbers.as_slice())
+            .is_ok();
     one
 }
 
@@ -135,7 +142,15 @@ fn two<R: Threads + Wait + Sync>(rt: &R, alloc: Global, table: &Table, a: Seat, 
     ended(table, one, other)
 }
 
-fn four<R: Threads + Wait + Sync>(rt: &R, alloc: Global, table: &Table, a: Seat, b: Seat, c: Seat, d: Seat) -> Session
+fn four<R: Threads + Wait + Sync>(
+    rt: &R,
+    alloc: Global,
+    table: &Table,
+    a: Seat,
+    b: Seat,
+    c: Seat,
+    d: Seat,
+) -> Session
     requires { IsAt table.now.table.shared.table_id a × IsAt table.now.table.shared.table_id b × IsAt table.now.table.shared.table_id c × IsAt table.now.table.shared.table_id d }
     ensures { IsAt table.now.table.shared.table_id result.desk }
 {
@@ -151,7 +166,12 @@ fn four<R: Threads + Wait + Sync>(rt: &R, alloc: Global, table: &Table, a: Seat,
     ended(table, one, other)
 }
 
-fn eight<R: Threads + Wait + Sync>(rt: &R, alloc: Global, table: &Table, desks: Vec<Seat>) -> Option<Session>
+fn eight<R: Threads + Wait + Sync>(
+    rt: &R,
+    alloc: Global,
+    table: &Table,
+    desks: Vec<Seat>,
+) -> Option<Session>
     requires { AreAt table.now.table.shared.table_id desks.items }
     ensures { IfSome result (λ s. IsAt table.now.table.shared.table_id s.desk) }
 {
@@ -185,14 +205,17 @@ fn are_all(mut numbers: Vec<u64>, count: u64) -> bool {
     true
 }
 
-// Eight sessions of a thousand calls each, and a last one by `close`: the plain register would answer 1 to 8,000, rising
-// in each session, and then 8,001.
+// Eight sessions of a thousand calls each, and a last one by `close`: the plain register would answer 1 to 8,000,
+// rising in each session, and then 8,001.
 fn all_count<R: Threads + Wait + Sync>(rt: &R, alloc: Global) -> Option<bool> {
     let (table, desks, _hands) = opened(alloc, 8, 0)?;
     let session = eight(rt, alloc, &table, desks)?;
     let rising = session.rising;
     let numbers = session.numbers;
-    let last = matches!(table.close(rt, session.desk, Call::Add), Ok(Reply::Number(8001)));
+    let last = matches!(
+        table.close(rt, session.desk, Call::Add),
+        Ok(Reply::Number(8001))
+    );
     Some(rising && last && are_all(numbers, 8000))
 }
 

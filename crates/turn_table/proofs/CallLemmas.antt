@@ -38,7 +38,7 @@ module _ {T S : Type 0} (m : Meaning T S) where
   own_call : (r : Role T) (t : T) → (m.is_numbered t ≡ true → (n : ℕ) × (caller r ≡ Some n)) → filter (is_own {S = S} m r) (entry (caller r) t ∷ []) ≡ cond (m.is_numbered t) (entry (caller r) t ∷ []) []
   own_call r t signed = ⊎_elim
       (λ (num : m.is_numbered t ≡ true). let s = signed num in let own : stands_by r (caller r) ≡ true = ap (stands_by r) s.1 ∙ caller_stands r s.0 s.1 in
-          ap (λ b. cond (b && stands_by r (caller r)) (entry (caller r) t ∷ []) []) num ∙ (ap (λ b. cond b (entry (caller r) t ∷ []) []) own ∙ ap (λ b. cond b (entry (caller r) t ∷ []) []) (sym num)))
+      ap (λ b. cond (b && stands_by r (caller r)) (entry (caller r) t ∷ []) []) num ∙ (ap (λ b. cond b (entry (caller r) t ∷ []) []) own ∙ ap (λ b. cond b (entry (caller r) t ∷ []) []) (sym num)))
       (λ (num : m.is_numbered t ≡ false). ap (λ b. cond (b && stands_by r (caller r)) (entry (caller r) t ∷ []) []) num ∙ ap (λ b. cond b (entry (caller r) t ∷ []) []) (sym num))
       (either_bool (m.is_numbered t))
 
@@ -79,20 +79,20 @@ module _ {T S : Type 0} (m : Meaning T S) where
               (subst (AreCalled m desks) (sym seen') (called_push m desks (v.seen ++ between) e (subst (AreCalled m desks) (sym same) b.knows.called) (called_entry m back t desks v.role signed numbered)));
           hand_is = hand_given given hands (λ i. (sym same i, sym now i)) (ap (number_by m) b.holds);
         } where
-      mine_then : (back : Maybe ℕ) → back ≡ None → (t : T) (v w : View T S) (between : List (Entry T)) → (w.seen ≡ (v.seen ++ between) ++ entry (caller v.role) t ∷ []) × (w.role ≡ role_after m back t v.role)
-          → (m.is_numbered t ≡ true → (n : ℕ) × (caller v.role ≡ Some n)) → Mine m v.seen v.role → Mine m (v.seen ++ between) v.role
-          → mine m w ≡ mine m v ++ cond (m.is_numbered t) (entry (caller v.role) t ∷ []) []
-      mine_then back none_back t v w between is signed f g = let e : Entry T = entry (caller v.role) t in
-          let added_role : w.role ≡ added m v.role e = is.1 ∙ ap (λ (b : Maybe ℕ). role_after m b t v.role) none_back in
-          same_own w.role v.role (λ n. ap (λ r. stands_for r n) added_role ∙ stands_added m v.role e n) w.seen
-          ∙ (ap (filter (is_own {S = S} m v.role)) is.0
-          ∙ (filter-append (is_own {S = S} m v.role) (v.seen ++ between) (e ∷ [])
-          ∙ ((λ i. (filter-append (is_own {S = S} m v.role) v.seen between ∙ (ap (λ l. mine m v ++ l) (none_between m v.role v.seen between f g) ∙ append-nil (mine m v))) i ++ own_call v.role t signed i))))
+          mine_then : (back : Maybe ℕ) → back ≡ None → (t : T) (v w : View T S) (between : List (Entry T)) → (w.seen ≡ (v.seen ++ between) ++ entry (caller v.role) t ∷ []) × (w.role ≡ role_after m back t v.role)
+              → (m.is_numbered t ≡ true → (n : ℕ) × (caller v.role ≡ Some n)) → Mine m v.seen v.role → Mine m (v.seen ++ between) v.role
+              → mine m w ≡ mine m v ++ cond (m.is_numbered t) (entry (caller v.role) t ∷ []) []
+          mine_then back none_back t v w between is signed f g = let e : Entry T = entry (caller v.role) t in
+              let added_role : w.role ≡ added m v.role e = is.1 ∙ ap (λ (b : Maybe ℕ). role_after m b t v.role) none_back in
+              same_own w.role v.role (λ n. ap (λ r. stands_for r n) added_role ∙ stands_added m v.role e n) w.seen
+              ∙ (ap (filter (is_own {S = S} m v.role)) is.0
+              ∙ (filter-append (is_own {S = S} m v.role) (v.seen ++ between) (e ∷ [])
+              ∙ ((λ i. (filter-append (is_own {S = S} m v.role) v.seen between ∙ (ap (λ l. mine m v ++ l) (none_between m v.role v.seen between f g) ∙ append-nil (mine m v))) i ++ own_call v.role t signed i))))
 
-      hand_given : (given : Maybe (View T S)) → IfSome given (λ h. (h ≡ new_hand m g) × HasRoom m x) → ◌≡◌ {A = List (Entry T) × S} (g.seen, x) (v.seen ++ b.sees.0, state_after m start (v.seen ++ b.sees.0))
-          → number_by m g.holds ≡ lowest m x → IfSome given (λ h. let y = state_after m start (v.seen ++ b.sees.0) in (h ≡ view (v.seen ++ b.sees.0) (hand (lowest m y)) None) × HasRoom m y)
-      hand_given None h same number = tt
-      hand_given (Some z) h same number = (h.0 ∙ (λ i. view g.seen (hand (number i)) None) ∙ (λ i. view (same i).0 (hand (lowest m (same i).1)) None), subst (HasRoom m) (λ i. (same i).1) h.1)
+          hand_given : (given : Maybe (View T S)) → IfSome given (λ h. (h ≡ new_hand m g) × HasRoom m x) → ◌≡◌ {A = List (Entry T) × S} (g.seen, x) (v.seen ++ b.sees.0, state_after m start (v.seen ++ b.sees.0))
+              → number_by m g.holds ≡ lowest m x → IfSome given (λ h. let y = state_after m start (v.seen ++ b.sees.0) in (h ≡ view (v.seen ++ b.sees.0) (hand (lowest m y)) None) × HasRoom m y)
+          hand_given None h same number = tt
+          hand_given (Some z) h same number = (h.0 ∙ (λ i. view g.seen (hand (number i)) None) ∙ (λ i. view (same i).0 (hand (lowest m (same i).1)) None), subst (HasRoom m) (λ i. (same i).1) h.1)
 
     pub looked : (x : S) (v g w : View T S) → Began m Legal start desks x v g → w.seen ≡ g.seen → w.role ≡ g.role → w.holds ≡ None → Looked m Legal start desks v w
     looked x v g w b seen role rests =

@@ -126,9 +126,9 @@ module _ {O T S : Type 0} (m : Meaning T S) (Legal : S → T → Type 0) (state 
     still_out n no_back = ⊎_elim
         (λ (out : m.is_out r.now n ≡ true). inl (ap (λ (z : S). m.is_out (m.after z t) n) h.now_is ∙ (may.outs n ∙ stays (names k n) (m.is_out x n) (names back n) (ap (λ (z : S). m.is_out z n) (sym h.now_is) ∙ out) no_back)))
         (λ (made : r.made ≡ Some n). inr made) where
-      stays : (a b c : Bool) → b ≡ true → c ≡ false → (a || (b && not c)) ≡ true
-      stays true b c f g = refl
-      stays false b c f g = ap (λ z. z && not c) f ∙ ap not g
+          stays : (a b c : Bool) → b ≡ true → c ≡ false → (a || (b && not c)) ≡ true
+          stays true b c f g = refl
+          stays false b c f g = ap (λ z. z && not c) f ∙ ap not g
 
     not_back : (j n : ℕ) (z : View T S) → j ≢ id → get_elem? s.views j ≡ some z → has_hand z.role n ≡ true → names back n ≡ false
     not_back j n z ne there has = cases back refl where

@@ -157,6 +157,6 @@ module _ {O T S : Type 0} (m : Meaning T S) (Legal : S → T → Type 0) (state 
   held_by s r id v x k at is = ⊎_elim
       (λ (f : IsFree state r.now r.made (get_or s.words 0 0) s.homes s.views). absurd (let rests = f.nobody id v at in cc))
       (λ (h : IsHeld {O = O} r.log r.now r.made (get_or s.words 0 0) s.homes s.views). dite (ℕ_discrete id h.holder)
-          (λ (e : id ≡ h.holder). held_at s r id v x k at is h e)
-          (λ (ne : id ≢ h.holder). absurd (let rests = h.others id v ne at in cc)))
+      (λ (e : id ≡ h.holder). held_at s r id v x k at is h e)
+      (λ (ne : id ≢ h.holder). absurd (let rests = h.others id v ne at in cc)))
       r.lock

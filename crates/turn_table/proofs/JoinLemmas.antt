@@ -44,13 +44,13 @@ of_both P xs ys = cases (nat_lt (length xs) (length ys)) where
 pub begins_longer : {A : Type 0} (xs ys zs : List A) → IsPrefix xs zs → IsPrefix ys zs → IsPrefix xs (longer xs ys) × IsPrefix ys (longer xs ys)
 begins_longer xs ys zs p q = ⊎_elim
     (λ (b : nat_lt (length xs) (length ys) ≡ true). let le : length xs ≤ length ys = grind (arith, nat_tests) in
-        subst (λ c. IsPrefix xs (cond c ys xs) × IsPrefix ys (cond c ys xs)) (sym b) (prefix_shorter xs ys zs p q le, ([], whole ys)))
+    subst (λ c. IsPrefix xs (cond c ys xs) × IsPrefix ys (cond c ys xs)) (sym b) (prefix_shorter xs ys zs p q le, ([], whole ys)))
     (λ (b : nat_lt (length xs) (length ys) ≡ false). let le : length ys ≤ length xs = grind (arith, nat_tests) in
-        subst (λ c. IsPrefix xs (cond c ys xs) × IsPrefix ys (cond c ys xs)) (sym b) (([], whole xs), prefix_shorter ys xs zs q p le))
+    subst (λ c. IsPrefix xs (cond c ys xs) × IsPrefix ys (cond c ys xs)) (sym b) (([], whole xs), prefix_shorter ys xs zs q p le))
     (either_bool (nat_lt (length xs) (length ys))) where
-  whole : {B : Type 0} (l : List B) → l ++ [] ≡ l
-  whole [] = refl
-  whole (x ∷ l) = ap (λ r. x ∷ r) (whole l)
+      whole : {B : Type 0} (l : List B) → l ++ [] ≡ l
+      whole [] = refl
+      whole (x ∷ l) = ap (λ r. x ∷ r) (whole l)
 
 module _ {T S : Type 0} (m : Meaning T S) where
   -- a desk that has seen its own calls has them in all between that and the history

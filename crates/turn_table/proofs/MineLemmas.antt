@@ -147,12 +147,12 @@ module _ {T S : Type 0} (m : Meaning T S) where
   pub mine_added : (log : List (Entry T)) (t : T) (r : Role T) → (m.is_numbered t ≡ true → (n : ℕ) × (caller r ≡ Some n)) → Mine m log r → Mine m (log ++ entry (caller r) t ∷ []) (added m r (entry (caller r) t))
   mine_added log t (Desk d) signed all = ⊎_elim
       (λ (num : m.is_numbered t ≡ true). subst (λ b. Mine m (log ++ e ∷ []) (desk (cond b (with_call d.parts e) d.parts))) (sym num)
-          (own_parts log t d.parts num (signed num) all.0 all.1, apart_with_call d.parts e all.1))
+      (own_parts log t d.parts num (signed num) all.0 all.1, apart_with_call d.parts e all.1))
       (λ (num : m.is_numbered t ≡ false). subst (λ b. Mine m (log ++ e ∷ []) (desk (cond b (with_call d.parts e) d.parts))) (sym num)
-          (allmine_apart log e d.parts (λ n _. unnumbered e n num) all.0, all.1))
+      (allmine_apart log e d.parts (λ n _. unnumbered e n num) all.0, all.1))
       (either_bool (m.is_numbered t)) where
-    e : Entry T
-    e = entry (first_number d.parts) t
+        e : Entry T
+        e = entry (first_number d.parts) t
   mine_added log t (Hand h) signed all = tt
   mine_added log t (Deals d) signed all = mine_apart log (entry None t) (Deals d) (λ n _. ⊎_elim (λ (num : m.is_numbered t ≡ true). let s = signed num in absurd (cc (s.1))) (λ (num : m.is_numbered t ≡ false). unnumbered (entry None t) n num) (either_bool (m.is_numbered t))) all
   mine_added log t Nothing signed all = tt
@@ -176,16 +176,16 @@ module _ {T S : Type 0} (m : Meaning T S) where
   own_nothing r (e ∷ es) none = ⊎_elim
       (λ (own : is_own m r e ≡ true). absurd (called e.by (and_right (m.is_numbered e.told) (stands_by r e.by) own) (and_left (m.is_numbered e.told) (stands_by r e.by) own) (λ n h. none n h)))
       (λ (other : is_own m r e ≡ false). ap (λ b. cond b (e ∷ filter (is_own m r) es) (filter (is_own m r) es)) other
-          ∙ own_nothing r es (λ n h. dropped (is_call_of m n e) (calls_under m n es) (none n h)))
+      ∙ own_nothing r es (λ n h. dropped (is_call_of m n e) (calls_under m n es) (none n h)))
       (either_bool (is_own m r e)) where
-    dropped : (b : Bool) (xs : List (Entry T)) → cond b (e ∷ xs) xs ≡ [] → xs ≡ []
-    dropped true xs h = absurd cc
-    dropped false xs h = h
+        dropped : (b : Bool) (xs : List (Entry T)) → cond b (e ∷ xs) xs ≡ [] → xs ≡ []
+        dropped true xs h = absurd cc
+        dropped false xs h = h
 
-    called : (by : Option ℕ) → stands_by r by ≡ true → m.is_numbered e.told ≡ true → ((n : ℕ) → stands_for r n ≡ true → cond (m.is_numbered e.told && names by n) (e ∷ calls_under m n es) (calls_under m n es) ≡ []) → ⊥
-    called None s num h = absurd cc
-    called (Some n) s num h = let yes_it : (m.is_numbered e.told && (n == n)) ≡ true = ap (λ b. b && (n == n)) num ∙ itself n in
-        absurd (cc (ap (λ b. cond b (e ∷ calls_under m n es) (calls_under m n es)) yes_it, h n s))
+        called : (by : Option ℕ) → stands_by r by ≡ true → m.is_numbered e.told ≡ true → ((n : ℕ) → stands_for r n ≡ true → cond (m.is_numbered e.told && names by n) (e ∷ calls_under m n es) (calls_under m n es) ≡ []) → ⊥
+        called None s num h = absurd cc
+        called (Some n) s num h = let yes_it : (m.is_numbered e.told && (n == n)) ≡ true = ap (λ b. b && (n == n)) num ∙ itself n in
+            absurd (cc (ap (λ b. cond b (e ∷ calls_under m n es) (calls_under m n es)) yes_it, h n s))
 
   -- between what a seat has seen and what it sees later there is no call of its own
   pub none_between : (r : Role T) (xs ys : List (Entry T)) → Mine m xs r → Mine m (xs ++ ys) r → filter (is_own m r) ys ≡ []
@@ -196,10 +196,10 @@ module _ {T S : Type 0} (m : Meaning T S) where
   all_calls r desks [] all called = refl
   all_calls r desks (e ∷ es) all called = ⊎_elim
       (λ (num : m.is_numbered e.told ≡ true). let c = called.0 num in
-          let own : is_own m r e ≡ true = ap (λ b. b && stands_by r e.by) num ∙ (ap (stands_by r) c.1 ∙ all c.0 c.2) in
-          ap (λ b. cond b (e ∷ filter (is_own m r) es) (filter (is_own m r) es)) own
-          ∙ ap (λ l. e ∷ l) (all_calls r desks es all called.1) ∙ ap (λ b. cond b (e ∷ numbered_calls {S = S} m es) (numbered_calls {S = S} m es)) (sym num))
+      let own : is_own m r e ≡ true = ap (λ b. b && stands_by r e.by) num ∙ (ap (stands_by r) c.1 ∙ all c.0 c.2) in
+      ap (λ b. cond b (e ∷ filter (is_own m r) es) (filter (is_own m r) es)) own
+      ∙ ap (λ l. e ∷ l) (all_calls r desks es all called.1) ∙ ap (λ b. cond b (e ∷ numbered_calls {S = S} m es) (numbered_calls {S = S} m es)) (sym num))
       (λ (num : m.is_numbered e.told ≡ false).
-          ap (λ b. cond (b && stands_by r e.by) (e ∷ filter (is_own m r) es) (filter (is_own m r) es)) num
-          ∙ all_calls r desks es all called.1 ∙ ap (λ b. cond b (e ∷ numbered_calls {S = S} m es) (numbered_calls {S = S} m es)) (sym num))
+      ap (λ b. cond (b && stands_by r e.by) (e ∷ filter (is_own m r) es) (filter (is_own m r) es)) num
+      ∙ all_calls r desks es all called.1 ∙ ap (λ b. cond b (e ∷ numbered_calls {S = S} m es) (numbered_calls {S = S} m es)) (sym num))
       (either_bool (m.is_numbered e.told))

@@ -49,11 +49,11 @@ module _ {V : Type 0} where
     pub one_push : (vs : List V) (w : V) → OneSeat f vs → ((j n : ℕ) (x : V) → f w n ≡ true → get_elem? vs j ≡ some x → f x n ≡ true → ⊥) → OneSeat f (vs ++ w ∷ [])
     one_push vs w one nobody i j n x y ei ej fx fy = ⊎_elim
         (λ (s : get_elem? vs i ≡ some x). ⊎_elim
-            (λ (t : get_elem? vs j ≡ some y). one i j n x y s t fx fy)
-            (λ (t : (j ≡ length vs) × (w ≡ y)). absurd (nobody i n x (subst (λ (z : V). f z n ≡ true) (sym t.1) fy) s fx)) (at_push vs w y j ej))
+        (λ (t : get_elem? vs j ≡ some y). one i j n x y s t fx fy)
+        (λ (t : (j ≡ length vs) × (w ≡ y)). absurd (nobody i n x (subst (λ (z : V). f z n ≡ true) (sym t.1) fy) s fx)) (at_push vs w y j ej))
         (λ (s : (i ≡ length vs) × (w ≡ x)). ⊎_elim
-            (λ (t : get_elem? vs j ≡ some y). absurd (nobody j n y (subst (λ (z : V). f z n ≡ true) (sym s.1) fx) t fy))
-            (λ (t : (j ≡ length vs) × (w ≡ y)). s.0 ∙ sym t.0) (at_push vs w y j ej)) (at_push vs w x i ei)
+        (λ (t : get_elem? vs j ≡ some y). absurd (nobody j n y (subst (λ (z : V). f z n ≡ true) (sym s.1) fx) t fy))
+        (λ (t : (j ≡ length vs) × (w ≡ y)). s.0 ∙ sym t.0) (at_push vs w y j ej)) (at_push vs w x i ei)
 
     -- a view's numbers are cut in two
     pub one_split : (vs : List V) (id : ℕ) (v left right : V) → get_elem? vs id ≡ some v → ((n : ℕ) → f left n ≡ true → f v n ≡ true) → ((n : ℕ) → f right n ≡ true → f v n ≡ true)
@@ -71,10 +71,10 @@ module _ {V : Type 0} where
     owner vs id other v w both spent at there of none ne i n x e h = ⊎_elim
         (λ (t : (i ≡ other) × (spent ≡ x)). absurd (none n (subst (λ (z : V). f z n ≡ true) (sym t.1) h)))
         (λ (t : (i ≢ other) × (get_elem? (set vs id both) i ≡ some x)). ⊎_elim
-            (λ (s : (i ≡ id) × (both ≡ x)). ⊎_elim
-                (λ (r : f v n ≡ true). (id, v, at, r, inl (sym s.0), t.0))
-                (λ (r : f w n ≡ true). (other, w, there, r, inr (refl, s.0), t.0)) (of n (subst (λ (z : V). f z n ≡ true) (sym s.1) h)))
-            (λ (s : (i ≢ id) × (get_elem? vs i ≡ some x)). (i, x, s.1, h, inl refl, t.0)) (at_set vs id i both x t.1))
+        (λ (s : (i ≡ id) × (both ≡ x)). ⊎_elim
+        (λ (r : f v n ≡ true). (id, v, at, r, inl (sym s.0), t.0))
+        (λ (r : f w n ≡ true). (other, w, there, r, inr (refl, s.0), t.0)) (of n (subst (λ (z : V). f z n ≡ true) (sym s.1) h)))
+        (λ (s : (i ≢ id) × (get_elem? vs i ≡ some x)). (i, x, s.1, h, inl refl, t.0)) (at_set vs id i both x t.1))
         (at_set (set vs id both) other i spent x e)
 
     pub one_join : (vs : List V) (id other : ℕ) (v w both spent : V) → get_elem? vs id ≡ some v → get_elem? vs other ≡ some w → ((n : ℕ) → f both n ≡ true → (f v n ≡ true) ⊎ (f w n ≡ true)) → ((n : ℕ) → f spent n ≡ true → ⊥) → id ≢ other
@@ -85,8 +85,8 @@ module _ {V : Type 0} where
         let same : a.0 ≡ b.0 = one a.0 b.0 n a.1 b.1 a.2 b.2 a.3 b.3 in
         ⊎_elim
         (λ (p : a.0 ≡ i). ⊎_elim
-            (λ (q : b.0 ≡ j). sym p ∙ same ∙ q)
-            (λ (q : (b.0 ≡ other) × (j ≡ id)). absurd (a.5 (sym p ∙ same ∙ q.0))) b.4)
+        (λ (q : b.0 ≡ j). sym p ∙ same ∙ q)
+        (λ (q : (b.0 ≡ other) × (j ≡ id)). absurd (a.5 (sym p ∙ same ∙ q.0))) b.4)
         (λ (p : (a.0 ≡ other) × (i ≡ id)). ⊎_elim
-            (λ (q : b.0 ≡ j). absurd (b.5 (sym q ∙ sym same ∙ p.0)))
-            (λ (q : (b.0 ≡ other) × (j ≡ id)). p.1 ∙ sym q.1) b.4) a.4
+        (λ (q : b.0 ≡ j). absurd (b.5 (sym q ∙ sym same ∙ p.0)))
+        (λ (q : (b.0 ≡ other) × (j ≡ id)). p.1 ∙ sym q.1) b.4) a.4

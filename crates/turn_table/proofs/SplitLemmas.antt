@@ -167,6 +167,12 @@ module _ {O T S : Type 0} (m : Meaning T S) (Legal : S → T → Type 0) (state 
       (λ n k l. within_other g gs n k l)
       (λ l f. (f, tt)) (λ f. (f, tt))
 
+  pub deals_desk_as : (id : ℕ) (v : View T S) (d ds g gs : ℕ) → v ≡ dealing [] d ds g gs → d < ds → ds ≡ desks → Splits Rule id v (after_desk v) (deal_desk v)
+  deals_desk_as id v d ds g gs is h e = subst (λ (z : View T S). Splits Rule id z (after_desk z) (deal_desk z)) (sym is) (deals_desk id d ds g gs h e)
+
+  pub deals_hand_as : (id : ℕ) (v : View T S) (d ds g gs : ℕ) → v ≡ dealing [] d ds g gs → g < gs → Splits Rule id v (after_hand v) (deal_hand v)
+  deals_hand_as id v d ds g gs is h = subst (λ (z : View T S). Splits Rule id z (after_hand z) (deal_hand z)) (sym is) (deals_hand id d ds g gs h)
+
   -- a table starts free, with an empty history, and with one seat that has all numbers
   pub opens : (hands : ℕ) (o : O) → state o ≡ start → ((n : ℕ) → n < hands → m.is_out start n ≡ true) → Rule (opening (0 ∷ 0 ∷ []) (Some o ∷ []) (first_view desks hands))
   opens hands o is out = let v : View T S = first_view desks hands in record {

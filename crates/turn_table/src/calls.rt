@@ -17,7 +17,12 @@ use std::sync::Wait;
 
 impl<O: Object> TurnTable<O> {
     // One call from a badge.
-    fn call<R: Wait>(&self, rt: &R, badge: &mut Badge<View<O::Told, O::State>>, call: O::Call) -> Result<O::Reply, O::Call>
+    fn call<R: Wait>(
+        &self,
+        rt: &R,
+        badge: &mut Badge<View<O::Told, O::State>>,
+        call: O::Call,
+    ) -> Result<O::Reply, O::Call>
         requires table { badge.old.table_id ≡ self.now.table.shared.table_id }
         requires may { Has (λ v. MayCall O.meaning (O.told call) (O.back call) v.role) badge.old.views }
         ensures same { (badge.new.table_id ≡ badge.old.table_id) × (badge.new.id ≡ badge.old.id) }
@@ -44,7 +49,12 @@ impl<O: Object> TurnTable<O> {
     }
 
     /// Plays a call from a desk, and waits for the lock. An `Err` is want of memory, and hands the call back.
-    pub fn with<R: Wait>(&self, rt: &R, desk: &mut Desk<O::Told, O::State>, call: O::Call) -> Result<O::Reply, O::Call>
+    pub fn with<R: Wait>(
+        &self,
+        rt: &R,
+        desk: &mut Desk<O::Told, O::State>,
+        call: O::Call,
+    ) -> Result<O::Reply, O::Call>
         requires table { desk.old.table_id ≡ self.now.table.shared.table_id }
         requires desk { Has IsDesk desk.old.views }
         requires back { O.back call ≡ None }
@@ -60,7 +70,12 @@ impl<O: Object> TurnTable<O> {
 
     /// Plays a call from a hand's seat. The call isn't numbered, and gives back no hand but this one, whose seat is
     /// spent then. An `Err` is want of memory, and hands the call back.
-    pub fn with_hand<R: Wait>(&self, rt: &R, hand: &mut HandSeat<O::Told, O::State>, call: O::Call) -> Result<O::Reply, O::Call>
+    pub fn with_hand<R: Wait>(
+        &self,
+        rt: &R,
+        hand: &mut HandSeat<O::Told, O::State>,
+        call: O::Call,
+    ) -> Result<O::Reply, O::Call>
         requires table { hand.old.table_id ≡ self.now.table.shared.table_id }
         requires hand { (n : ℕ) × Has (IsHand n) hand.old.views × ((b : ℕ) → O.back call ≡ Some b → b ≡ n) }
         requires numbered { (r : O.Reply) → O.meaning.is_numbered (O.told call r) ≡ false }
@@ -82,14 +97,21 @@ impl<O: Object> TurnTable<O> {
         ensures joined { (other : View O.Told O.State) → desk.views ≡ other ∷ [] → Turned (λ v w. Joined O.meaning (MayFollow O.meaning O.Meets) (O.state self.now.table.shared.key.object.value) self.now.table.shared.key.desks v other w) into.old.views into.new.views }
     {
         let mut seat = mem::replace(into, Badge::blank()).into_seat::<Option<O>>();
-        self.table.shared.join_seat::<End>(&mut seat, desk.into_seat::<Option<O>>());
+        self.table
+            .shared
+            .join_seat::<End>(&mut seat, desk.into_seat::<Option<O>>());
         self.see::<Brand>(&mut seat);
         *into = seat.into_badge();
     }
 
     /// Plays one last call from a desk and gives the table up, with the object. An `Err` is want of memory, and hands
     /// all three back.
-    pub fn close<R: Wait>(self, rt: &R, desk: Desk<O::Told, O::State>, call: O::Call) -> Result<O::Reply, (TurnTable<O>, Desk<O::Told, O::State>, O::Call)>
+    pub fn close<R: Wait>(
+        self,
+        rt: &R,
+        desk: Desk<O::Told, O::State>,
+        call: O::Call,
+    ) -> Result<O::Reply, (TurnTable<O>, Desk<O::Told, O::State>, O::Call)>
         requires table { desk.table_id ≡ self.table.shared.table_id }
         requires desk { Has IsDesk desk.views }
         requires back { O.back call ≡ None }

@@ -30,12 +30,13 @@ impl<'a, O: Object> Turn<O> for Hold<'a, O> {
     ghost view = { λ h. h.seat.me.0 };
 
     fn make_hand(&mut self) -> Result<HandSeat<O::Told, O::State>, NoMemory> {
-        Ok(self
-            .table
-            .table
-            .shared
-            .split_seat::<MakeHand<O>>(&mut self.seat)
-            .into_badge())
+        Ok(
+            self.table
+                .table
+                .shared
+                .split_seat::<MakeHand<O>>(&mut self.seat)
+                .into_badge(),
+        )
     }
 }
 
@@ -46,7 +47,10 @@ impl<O: Object> TurnTable<O> {
         object: &mut O,
         seat: Seat<Option<O>, View<O::Told, O::State>>,
         call: O::Call,
-    ) -> (Seat<Option<O>, View<O::Told, O::State>>, Result<O::Reply, O::Call>)
+    ) -> (
+        Seat<Option<O>, View<O::Told, O::State>>,
+        Result<O::Reply, O::Call>,
+    )
         requires table { (seat.table_id ≡ self.now.table.shared.table_id) × (seat.me.1 ≡ (0, None) ∷ []) }
         requires held { seat.me.0.holds ≡ holding (O.state object.old) None }
         requires may { MayCall O.meaning (O.told call) (O.back call) seat.me.0.role }
@@ -61,10 +65,7 @@ impl<O: Object> TurnTable<O> {
         let asked = Snapshot::of(&call);
         let mut hold = Hold { table: self, seat };
         let result = object.play(&mut hold, call);
-        let Hold {
-            table: _,
-            mut seat,
-        } = hold;
+        let Hold { table: _, mut seat } = hold;
         match result {
             Ok(reply) => {
                 self.decide::<Brand>(&mut seat, &asked, &reply);
@@ -80,7 +81,10 @@ impl<O: Object> TurnTable<O> {
         rt: &R,
         mut seat: Seat<Option<O>, View<O::Told, O::State>>,
         call: O::Call,
-    ) -> (Seat<Option<O>, View<O::Told, O::State>>, Result<O::Reply, O::Call>)
+    ) -> (
+        Seat<Option<O>, View<O::Told, O::State>>,
+        Result<O::Reply, O::Call>,
+    )
         requires table { (seat.table_id ≡ self.now.table.shared.table_id) × (seat.me.1 ≡ []) }
         requires may { MayCall O.meaning (O.told call) (O.back call) seat.me.0.role }
         ensures id { (result.0.table_id ≡ seat.table_id) × (result.0.id ≡ seat.id) × (result.0.me.1 ≡ []) }

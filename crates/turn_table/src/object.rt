@@ -59,7 +59,11 @@ pub trait Object: Send + Drop {
     ghost given: { Self.Reply → Option (TableId × View Self.Told Self.State) };
 
     /// Plays one call. An `Err` is want of memory, and hands the call back.
-    fn play<T: Turn<Self>>(&mut self, turn: &mut T, call: Self::Call) -> Result<Self::Reply, Self::Call>
+    fn play<T: Turn<Self>>(
+        &mut self,
+        turn: &mut T,
+        call: Self::Call,
+    ) -> Result<Self::Reply, Self::Call>
         requires ready { IsReady (T.about turn.old) }
         requires held { (T.view turn.old).holds ≡ holding (state self.old) None }
         ensures same { T.about turn.new ≡ T.about turn.old }

@@ -37,7 +37,14 @@ fn taken_back<O>(slots: Vec<Option<O>>) -> O
 
 impl<O: Object> TurnTable<O> {
     // Gives out the desks, in the order of their numbers.
-    fn deal_desks(&self, seat: &mut Seat<Option<O>, View<O::Told, O::State>>, desks: &mut Vec<Desk<O::Told, O::State>>, count: u32, hands: u32)
+    #[tactic(auto, using(crate::proofs::OpenLemmas::none_dealt, crate::proofs::OpenLemmas::one_dealt))]
+    fn deal_desks(
+        &self,
+        seat: &mut Seat<Option<O>, View<O::Told, O::State>>,
+        desks: &mut Vec<Desk<O::Told, O::State>>,
+        count: u32,
+        hands: u32,
+    )
         requires table { seat.old.table_id ≡ self.now.table.shared.table_id }
         requires room { (desks.old.items ≡ []) × (count ≤ vec_capacity desks.old) }
         requires count { count ≡ self.now.table.shared.key.desks }
@@ -52,7 +59,14 @@ impl<O: Object> TurnTable<O> {
     }
 
     // Gives out the hands, in the order of their numbers.
-    fn deal_hands(&self, seat: &mut Seat<Option<O>, View<O::Told, O::State>>, hands: &mut Vec<HandSeat<O::Told, O::State>>, desks: u32, count: u32)
+    #[tactic(auto, using(crate::proofs::OpenLemmas::none_dealt, crate::proofs::OpenLemmas::one_dealt))]
+    fn deal_hands(
+        &self,
+        seat: &mut Seat<Option<O>, View<O::Told, O::State>>,
+        hands: &mut Vec<HandSeat<O::Told, O::State>>,
+        desks: u32,
+        count: u32,
+    )
         requires table { seat.old.table_id ≡ self.now.table.shared.table_id }
         requires room { (hands.old.items ≡ []) × (count ≤ vec_capacity hands.old) }
         requires view { seat.old.me ≡ (deals_from desks desks 0 count, []) }
@@ -67,7 +81,12 @@ impl<O: Object> TurnTable<O> {
 
 impl<O: Object> TurnTable<O> {
     // The table round an object, and its first seat.
-    fn found(alloc: Global, object: O, desks: u32, hands: u32) -> Result<(TurnTable<O>, Seat<Option<O>, View<O::Told, O::State>>), O>
+    fn found(
+        alloc: Global,
+        object: O,
+        desks: u32,
+        hands: u32,
+    ) -> Result<(TurnTable<O>, Seat<Option<O>, View<O::Told, O::State>>), O>
         requires out { AreOutBelow O.meaning hands (O.state object) }
         ensures ok { IfOk result (λ t. (t.0.table.shared.key.object.value ≡ object) × (t.0.table.shared.key.desks ≡ desks) × (t.1.table_id ≡ t.0.table.shared.table_id) × (t.1.me ≡ (deals_from 0 desks 0 hands, []))) }
         ensures err { IfErr result (λ o. o ≡ object) }

@@ -35,11 +35,16 @@ impl<O: Object> TurnTable<O> {
         ensures id { (seat.new.table_id ≡ seat.old.table_id) × (seat.new.id ≡ seat.old.id) }
         ensures lock { MatchBool result (Grabbed O.meaning (MayFollow O.meaning O.Meets) O.state B.start B.desks seat.old.me seat.new.me) (seat.new.me ≡ seat.old.me) }
     {
-        self.table.shared.compare_exchange::<Grab<O, B>>(seat, 0, 0, 1) == 0
+        let shared = &self.table.shared;
+        shared.compare_exchange::<Grab<O, B>>(seat, 0, 0, 1) == 0
     }
 
     // Waits for the lock.
-    fn lock<B: Begun<O::State>, R: Wait>(&self, rt: &R, seat: &mut Seat<Option<O>, View<O::Told, O::State>>)
+    fn lock<B: Begun<O::State>, R: Wait>(
+        &self,
+        rt: &R,
+        seat: &mut Seat<Option<O>, View<O::Told, O::State>>,
+    )
         requires table { seat.old.table_id ≡ self.now.table.shared.table_id }
         requires begun { (B.start ≡ Some (O.state self.now.table.shared.key.object.value)) × (B.desks ≡ self.now.table.shared.key.desks) }
         ensures id { (seat.new.table_id ≡ seat.old.table_id) × (seat.new.id ≡ seat.old.id) }
@@ -61,7 +66,11 @@ impl<O: Object> TurnTable<O> {
     }
 
     // Takes the lock and the object.
-    pub(crate) fn begin<R: Wait>(&self, rt: &R, seat: &mut Seat<Option<O>, View<O::Told, O::State>>) -> O
+    pub(crate) fn begin<R: Wait>(
+        &self,
+        rt: &R,
+        seat: &mut Seat<Option<O>, View<O::Told, O::State>>,
+    ) -> O
         requires table { (seat.old.table_id ≡ self.now.table.shared.table_id) × (seat.old.me.1 ≡ []) }
         ensures id { (seat.new.table_id ≡ seat.old.table_id) × (seat.new.id ≡ seat.old.id) }
         ensures carries { seat.new.me.1 ≡ (0, None) ∷ [] }

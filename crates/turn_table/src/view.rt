@@ -50,7 +50,8 @@ pub struct Holding<S> {
 }
 
 /// What a seat knows: the beginning of the history that it has seen, what it stands for, and, while it holds the lock,
-/// what it knows of the object. `heard` is what a seat had seen that was just taken in; it is empty at all other times.
+/// what it knows of the object. `heard` is what a seat had seen that was just taken in, and is empty at all other
+/// times.
 pub struct View<T, S> {
     pub seen: LinkedList<Entry<T>>,
     pub heard: LinkedList<Entry<T>>,

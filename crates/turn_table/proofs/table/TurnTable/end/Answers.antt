@@ -33,5 +33,5 @@ returns-clause-joined g c =
     let dv : IsDesk v = had IsDesk c.args.into.now.views v ev c.requires.desks.1 in
     let saw : Saw m legal (Some start) desks (joined v o) w = subst (λ (z : V). Saw m legal (Some start) desks z w) (ap (λ me. me.0) c.join_seat.ensures.2) c.see.ensures.saw in
     let all : Turned (λ (a b : V). Joined m legal start desks a o b) c.args.into.now.views c.into_badge.result.views =
-        turned (λ (a b : V). Joined m legal start desks a o b) c.args.into.now.views c.into_badge.result.views v w ev c.into_badge.ensures.2 (ended m legal start desks (Some start) v o w refl dv.rests saw) in
+    turned (λ (a b : V). Joined m legal start desks a o b) c.args.into.now.views c.into_badge.result.views v w ev c.into_badge.ensures.2 (ended m legal start desks (Some start) v o w refl dv.rests saw) in
     λ other e. subst (λ (z : V). Turned (λ (a b : V). Joined m legal start desks a z b) c.args.into.now.views c.into_badge.result.views) (one_head o other (sym c.into_seat.ensures.2 ∙ e)) all
