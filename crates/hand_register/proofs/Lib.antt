@@ -1,2 +1,2 @@
 pub mod FreeLemmas
-pub mod MakeLemmas
+pub mod SeatLemmas

@@ -5,6 +5,7 @@ use Rattle.atomic_table.specs.declared.badge.Badge.{Badge}
 use Rattle.points.specs.declared.limits.TheConstants.{MAX_HANDS}
 use Rattle.turn_table.specs.declared.view.View.{View}
 use Rattle.turn_table.specs.Meaning.{Meaning, first_free, HasRoom}
+use Rattle.turn_table.specs.Steps.{spent}
 use Rattle.turn_table.specs.Turns.{maker, new_hand, made_of, Outs}
 use Rattle.hand_register.specs.declared.register.Call.{Call}
 use Rattle.hand_register.specs.declared.register.Call.TheVariants.{Add, Guess, Rest, Hand as MakeHand, GiveBack, Refuse}
@@ -73,9 +74,14 @@ number_in (Hand h k) = 0
 number_in NoHand = 0
 number_in Done = 0
 
+-- a badge's one view, and a spent one in its place where it has none
+abbrev pub one_view : List (View Told Shown) → View Told Shown
+one_view [] = spent
+one_view (v ∷ []) = v
+one_view (v ∷ w ∷ vs) = spent
+
 abbrev pub seat_in : TableId → List (View Told Shown) → Option (TableId × View Told Shown)
-seat_in t [] = None
-seat_in t (v ∷ vs) = Some (t, v)
+seat_in t vs = Some (t, one_view vs)
 
 abbrev pub given : Reply → Option (TableId × View Told Shown)
 given (Number n) = None

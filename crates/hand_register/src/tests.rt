@@ -133,10 +133,12 @@ fn two<R: Threads + Wait + Sync>(rt: &R, alloc: Global, table: &Table, a: Seat, 
     let (one, other) = join(
         rt,
         || -> Session
-            ensures { IsAt table.now.table.shared.table_id result.desk }
+            requires { IsAt table.now.table.shared.table_id a }
+            ensures { IsAt table.entry.now.table.shared.table_id result.desk }
         { work(rt, alloc, table, a) },
         || -> Session
-            ensures { IsAt table.now.table.shared.table_id result.desk }
+            requires { IsAt table.now.table.shared.table_id b }
+            ensures { IsAt table.entry.now.table.shared.table_id result.desk }
         { work(rt, alloc, table, b) },
     );
     ended(table, one, other)
@@ -157,13 +159,25 @@ fn four<R: Threads + Wait + Sync>(
     let (one, other) = join(
         rt,
         || -> Session
-            ensures { IsAt table.now.table.shared.table_id result.desk }
+            requires { IsAt table.now.table.shared.table_id a × IsAt table.now.table.shared.table_id b }
+            ensures { IsAt table.entry.now.table.shared.table_id result.desk }
         { two(rt, alloc, table, a, b) },
         || -> Session
-            ensures { IsAt table.now.table.shared.table_id result.desk }
+            requires { IsAt table.now.table.shared.table_id c × IsAt table.now.table.shared.table_id d }
+            ensures { IsAt table.entry.now.table.shared.table_id result.desk }
         { two(rt, alloc, table, c, d) },
     );
     ended(table, one, other)
+}
+
+// The last of a table's desks.
+fn taken(table: &Table, desks: &mut Vec<Seat>) -> Option<Seat>
+    requires { AreAt table.now.table.shared.table_id desks.old.items }
+    ensures desk { IfSome result (λ d. IsAt table.now.table.shared.table_id d) }
+    ensures others { AreAt table.now.table.shared.table_id desks.new.items }
+{
+    let _ = table;
+    desks.pop()
 }
 
 fn eight<R: Threads + Wait + Sync>(
@@ -176,15 +190,19 @@ fn eight<R: Threads + Wait + Sync>(
     ensures { IfSome result (λ s. IsAt table.now.table.shared.table_id s.desk) }
 {
     let mut desks = desks;
-    let (a, b, c, d) = (desks.pop()?, desks.pop()?, desks.pop()?, desks.pop()?);
-    let (e, f, g, h) = (desks.pop()?, desks.pop()?, desks.pop()?, desks.pop()?);
+    let (a, b) = (taken(table, &mut desks)?, taken(table, &mut desks)?);
+    let (c, d) = (taken(table, &mut desks)?, taken(table, &mut desks)?);
+    let (e, f) = (taken(table, &mut desks)?, taken(table, &mut desks)?);
+    let (g, h) = (taken(table, &mut desks)?, taken(table, &mut desks)?);
     let (one, other) = join(
         rt,
         || -> Session
-            ensures { IsAt table.now.table.shared.table_id result.desk }
+            requires { IsAt table.now.table.shared.table_id a × IsAt table.now.table.shared.table_id b × IsAt table.now.table.shared.table_id c × IsAt table.now.table.shared.table_id d }
+            ensures { IsAt table.entry.now.table.shared.table_id result.desk }
         { four(rt, alloc, table, a, b, c, d) },
         || -> Session
-            ensures { IsAt table.now.table.shared.table_id result.desk }
+            requires { IsAt table.now.table.shared.table_id e × IsAt table.now.table.shared.table_id f × IsAt table.now.table.shared.table_id g × IsAt table.now.table.shared.table_id h }
+            ensures { IsAt table.entry.now.table.shared.table_id result.desk }
         { four(rt, alloc, table, e, f, g, h) },
     );
     Some(ended(table, one, other))
