@@ -1,0 +1,12 @@
+mod Seats
+mod HistoryLemmas
+mod MineLemmas
+mod FrameLemmas
+mod LockLemmas
+mod DecideLemmas
+mod SplitLemmas
+mod JoinLemmas
+mod HoldLemmas
+mod CallLemmas
+mod OpenLemmas
+mod DeskLemmas
