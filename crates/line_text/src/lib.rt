@@ -10,8 +10,6 @@ mod encode;
 mod ending;
 mod refusal;
 mod rows;
-#[cfg(test)]
-mod tests;
 mod text;
 
 pub use ending::Ending;

@@ -13,7 +13,7 @@ use Rattle.points.specs.Marks.{moved_boundary, moved, splice_of}
 use Rattle.points.specs.MarkList.{MarkIsWithin, SpliceIsWithin, all_moved}
 use Rattle.points.proofs.PointLemmas.{traverse-traversal}
 use Rattle.points.proofs.OffsetLemmas.{point_at_lt, point_at_le}
-use Rattle.points.proofs.DistanceLemmas.{point_at_within, point_at-replaced_before, point_at-replaced_end, point_at-replaced_behind}
+use Rattle.points.proofs.ExtentParts.{point_at_within, point_at-replaced_before, point_at-replaced_end, point_at-replaced_behind}
 use Rattle.points.proofs.TextLemmas.{length-replaced}
 use Rattle.points.proofs.MarkLemmas.{below_stays, above_keeps_its_distance, at_the_start_of_replaced_text_stays, in_replaced_text_goes_to_its_end}
 use Rattle.markers.specs.Text.{IsPointOf, IsMarkOf, splice_in}

@@ -21,7 +21,7 @@ use Rattle.patch.proofs.Pieces.{Piece, old_of, tag_of, changes_of, is_none, AllA
 use Rattle.patch.proofs.PatchPieces.{hunk_between, shown}
 use Rattle.patch.proofs.ShownPieces.{shown_fit, shown_tag}
 use Rattle.patch.proofs.SplicePieces.{piece, tagged-append, untagged-append}
-use Rattle.patch.proofs.CoverLemmas.{extent_two}
+use Rattle.patch.proofs.AbsorbLemmas.{extent_two}
 
 -- a unit in either text is enough
 some_old : (u : ℕ) (us new : List ℕ) → ((length (u ∷ us) == 0) && (length new == 0)) ≡ false

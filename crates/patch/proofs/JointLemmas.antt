@@ -9,14 +9,14 @@ use Rattle.points.specs.Point.{origin, point_le, point_lt, traverse, traversal}
 use Rattle.points.specs.Place.{extent, offset_of}
 use Rattle.points.proofs.PointLemmas.{same_coordinates, point_le-false}
 use Rattle.points.proofs.OffsetLemmas.{offset_of-at}
+use Rattle.points.specs.Distance.{capped}
 use Rattle.patch.specs.Hunk.{Hunk, hunk_of, hunks_of}
-use Rattle.patch.specs.Stretches.{capped}
-use Rattle.patch.specs.Spliced.{change_at, moved_hunk, Cover, cover_made, cover_step, cover, joined, units_before, spliced_in, spliced_before, spliced_from}
+use Rattle.patch.specs.Spliced.{change_at, moved_hunk, Absorption, absorption_made, absorption_step, absorption, one_change, units_before, spliced_in, spliced_before, spliced_from}
 use Rattle.patch.specs.Joints.{last_old_end, last_new_end, Joins}
 use Rattle.patch.specs.declared.joint.Joint.{Joint}
 use Rattle.patch.specs.declared.change.Change.{Change}
-use Rattle.patch.proofs.CoverLemmas.{extent_two}
-use Rattle.patch.proofs.CoverSteps.{slice_rest, hunks_next}
+use Rattle.patch.proofs.AbsorbLemmas.{extent_two}
+use Rattle.patch.proofs.AbsorbSteps.{slice_rest, hunks_next}
 
 -- changes that end before the place stay
 pub spliced_past : (a b start : Point) (deleted inserted : List ℕ) (n : ℕ) (cs : List Change) → n ≤ length cs → ((k : ℕ) (d : Change) → k < n → point_le start (get_or cs k d).new_range.end ≡ false)
@@ -59,7 +59,7 @@ pub starts_last : (a b start : Point) (deleted inserted : List ℕ) (cs : List C
 starts_last a b start deleted inserted cs at end = ap (λ (xs : List Change). spliced_from a b start deleted inserted (hunks_of xs)) (drop_all at cs end)
     ∙ ap (λ (xs : List Change). spliced_before a b start deleted inserted (hunks_of xs)) (sym (drop_all at cs end))
 
--- what is covered from a change on, the first units of which are `pre`
+-- what is absorbed from a change on, the first units of which are `pre`
 no_way : (p : Point) → traversal p p ≡ origin
 no_way p = same_coordinates (traversal p p) origin (grind (arith, nat_tests)) (grind (arith, nat_tests))
 
@@ -69,52 +69,52 @@ drop_beyond (x ∷ xs) ys zero le = absurd (omega arith)
 drop_beyond (x ∷ xs) ys (suc n) le = drop_beyond xs ys n (omega arith) ∙ (let e : n - length xs ≡ suc n - suc (length xs) = omega arith in ap (λ (m : ℕ). drop m ys) e)
 
 module _ (cs : List Change) (at : ℕ) (c : Change) (within : at < length cs) (is : c ≡ get_or cs at c) (pre deleted : List ℕ) (pre_in : length pre ≤ length c.new_text) where
-  first_step : cover c.new_range.start (pre ++ deleted) (hunks_of (drop at cs)) ≡ cover_step (Some 0) (pre ++ deleted) (hunk_of c) (hunks_of (drop (at + 1) cs))
-      (λ k. cover c.new_range.end (drop (length c.new_text) (drop k (pre ++ deleted))) (hunks_of (drop (at + 1) cs)))
-  first_step = ap (cover c.new_range.start (pre ++ deleted)) (hunks_next cs at c within is)
-      ∙ ap (λ (o : Option ℕ). cover_step o (pre ++ deleted) (hunk_of c) (hunks_of (drop (at + 1) cs)) (λ k. cover c.new_range.end (drop (length c.new_text) (drop k (pre ++ deleted))) (hunks_of (drop (at + 1) cs))))
+  first_step : absorption c.new_range.start (pre ++ deleted) (hunks_of (drop at cs)) ≡ absorption_step (Some 0) (pre ++ deleted) (hunk_of c) (hunks_of (drop (at + 1) cs))
+      (λ k. absorption c.new_range.end (drop (length c.new_text) (drop k (pre ++ deleted))) (hunks_of (drop (at + 1) cs)))
+  first_step = ap (absorption c.new_range.start (pre ++ deleted)) (hunks_next cs at c within is)
+      ∙ ap (λ (o : Option ℕ). absorption_step o (pre ++ deleted) (hunk_of c) (hunks_of (drop (at + 1) cs)) (λ k. absorption c.new_range.end (drop (length c.new_text) (drop k (pre ++ deleted))) (hunks_of (drop (at + 1) cs))))
       (ap (offset_of (pre ++ deleted)) (no_way c.new_range.start) ∙ offset_of-at (pre ++ deleted) origin 0 (omega arith) refl)
 
   pub ends_in_first : length deleted ≤ length c.new_text - length pre
-      → cover c.new_range.start (pre ++ deleted) (hunks_of (drop at cs)) ≡ cover_made c.old_text (drop (length pre + length deleted) c.new_text) (hunks_of (drop (at + 1) cs))
+      → absorption c.new_range.start (pre ++ deleted) (hunks_of (drop at cs)) ≡ absorption_made c.old_text (drop (length pre + length deleted) c.new_text) (hunks_of (drop (at + 1) cs))
   ends_in_first le = first_step ∙ (cond-true (leb (length (pre ++ deleted)) (length c.new_text)) _ _ (le-leb (length (pre ++ deleted)) (length c.new_text) (omega (arith, length-append pre deleted)))
-      ∙ ap (λ (n : ℕ). cover_made c.old_text (drop n c.new_text) (hunks_of (drop (at + 1) cs))) (length-append pre deleted))
+      ∙ ap (λ (n : ℕ). absorption_made c.old_text (drop n c.new_text) (hunks_of (drop (at + 1) cs))) (length-append pre deleted))
 
-  pub goes_on : (r : Cover) → length c.new_text - length pre < length deleted → r ≡ cover c.new_range.end (drop (length c.new_text - length pre) deleted) (hunks_of (drop (at + 1) cs))
-      → cover c.new_range.start (pre ++ deleted) (hunks_of (drop at cs)) ≡ cover_made (c.old_text ++ r.mid) r.post r.rest
+  pub goes_on : (r : Absorption) → length c.new_text - length pre < length deleted → r ≡ absorption c.new_range.end (drop (length c.new_text - length pre) deleted) (hunks_of (drop (at + 1) cs))
+      → absorption c.new_range.start (pre ++ deleted) (hunks_of (drop at cs)) ≡ absorption_made (c.old_text ++ r.mid) r.post r.rest
   goes_on r lt r_is = first_step ∙ (cond-false (leb (length (pre ++ deleted)) (length c.new_text)) _ _ (lt-leb (length (pre ++ deleted)) (length c.new_text) (omega (arith, length-append pre deleted)))
-      ∙ ap (λ (x : Cover). cover_made (c.old_text ++ x.mid) x.post x.rest) (ap (λ (xs : List ℕ). cover c.new_range.end xs (hunks_of (drop (at + 1) cs))) (drop_beyond pre deleted (length c.new_text) pre_in) ∙ sym r_is))
+      ∙ ap (λ (x : Absorption). absorption_made (c.old_text ++ x.mid) x.post x.rest) (ap (λ (xs : List ℕ). absorption c.new_range.end xs (hunks_of (drop (at + 1) cs))) (drop_beyond pre deleted (length c.new_text) pre_in) ∙ sym r_is))
 
 -- the answers of the code for it
-abbrev pub IsCoverOf : List ℕ → List ℕ → List Hunk → Cover → Type 0
-IsCoverOf mid post rest c = (mid ≡ c.mid) × (post ≡ c.post) × (rest ≡ c.rest)
+abbrev pub IsAbsorptionOf : List ℕ → List ℕ → List Hunk → Absorption → Type 0
+IsAbsorptionOf mid post rest c = (mid ≡ c.mid) × (post ≡ c.post) × (rest ≡ c.rest)
 
 module _ (cs : List Change) (at : ℕ) (c : Change) (within : at < length cs) (is : c ≡ get_or cs at c) (new_text : List ℕ) (new_is : new_text ≡ c.new_text) (before : ℕ) (deleted : List ℕ) (before_in : before ≤ length new_text)
     (d : Change) (pre : List ℕ) (size : length pre ≡ before) where
-  at_change : cover (get_or cs at d).new_range.start (pre ++ deleted) (hunks_of (drop at cs)) ≡ cover c.new_range.start (pre ++ deleted) (hunks_of (drop at cs))
-  at_change = ap (λ (x : Change). cover x.new_range.start (pre ++ deleted) (hunks_of (drop at cs))) (sym (get_or_read cs at c within is d))
+  at_change : absorption (get_or cs at d).new_range.start (pre ++ deleted) (hunks_of (drop at cs)) ≡ absorption c.new_range.start (pre ++ deleted) (hunks_of (drop at cs))
+  at_change = ap (λ (x : Change). absorption x.new_range.start (pre ++ deleted) (hunks_of (drop at cs))) (sym (get_or_read cs at c within is d))
 
-  pub covered_first : length deleted ≤ length new_text - before → (mid : List ℕ) → mid ≡ c.old_text
-      → IsCoverOf mid (take (length new_text - (before + length deleted)) (drop (before + length deleted) new_text)) (hunks_of (drop (at + 1) cs)) (cover (get_or cs at d).new_range.start (pre ++ deleted) (hunks_of (drop at cs)))
-  covered_first le mid mid_is = let whole = at_change ∙ ends_in_first cs at c within is pre deleted (omega (arith, size, before_in, ap length new_is)) (omega (arith, size, le, ap length new_is)) in
+  pub absorbed_first : length deleted ≤ length new_text - before → (mid : List ℕ) → mid ≡ c.old_text
+      → IsAbsorptionOf mid (take (length new_text - (before + length deleted)) (drop (before + length deleted) new_text)) (hunks_of (drop (at + 1) cs)) (absorption (get_or cs at d).new_range.start (pre ++ deleted) (hunks_of (drop at cs)))
+  absorbed_first le mid mid_is = let whole = at_change ∙ ends_in_first cs at c within is pre deleted (omega (arith, size, before_in, ap length new_is)) (omega (arith, size, le, ap length new_is)) in
       let n : length pre + length deleted ≡ before + length deleted = omega arith in (
-        mid_is ∙ sym (ap (λ (x : Cover). x.mid) whole),
-        slice_rest new_text (before + length deleted) ∙ (ap (drop (before + length deleted)) new_is ∙ (ap (λ (k : ℕ). drop k c.new_text) (sym n) ∙ sym (ap (λ (x : Cover). x.post) whole))),
-        sym (ap (λ (x : Cover). x.rest) whole),
+        mid_is ∙ sym (ap (λ (x : Absorption). x.mid) whole),
+        slice_rest new_text (before + length deleted) ∙ (ap (drop (before + length deleted)) new_is ∙ (ap (λ (k : ℕ). drop k c.new_text) (sym n) ∙ sym (ap (λ (x : Absorption). x.post) whole))),
+        sym (ap (λ (x : Absorption). x.rest) whole),
       )
 
-  pub covered_later : length new_text - before < length deleted → (old_text mid post : List ℕ) (rest : List Hunk) → old_text ≡ c.old_text
-      → mid ≡ old_text ++ (cover c.new_range.end (take (length deleted - (length new_text - before)) (drop (length new_text - before) deleted)) (hunks_of (drop (at + 1) cs))).mid
-      → post ≡ (cover c.new_range.end (take (length deleted - (length new_text - before)) (drop (length new_text - before) deleted)) (hunks_of (drop (at + 1) cs))).post
-      → rest ≡ (cover c.new_range.end (take (length deleted - (length new_text - before)) (drop (length new_text - before) deleted)) (hunks_of (drop (at + 1) cs))).rest
-      → IsCoverOf mid post rest (cover (get_or cs at d).new_range.start (pre ++ deleted) (hunks_of (drop at cs)))
-  covered_later lt old_text mid post rest old_is mid_is post_is rest_is = let n : length new_text - before ≡ length c.new_text - length pre = omega (arith, ap length new_is) in
-      let r : Cover = cover c.new_range.end (take (length deleted - (length new_text - before)) (drop (length new_text - before) deleted)) (hunks_of (drop (at + 1) cs)) in
+  pub absorbed_later : length new_text - before < length deleted → (old_text mid post : List ℕ) (rest : List Hunk) → old_text ≡ c.old_text
+      → mid ≡ old_text ++ (absorption c.new_range.end (take (length deleted - (length new_text - before)) (drop (length new_text - before) deleted)) (hunks_of (drop (at + 1) cs))).mid
+      → post ≡ (absorption c.new_range.end (take (length deleted - (length new_text - before)) (drop (length new_text - before) deleted)) (hunks_of (drop (at + 1) cs))).post
+      → rest ≡ (absorption c.new_range.end (take (length deleted - (length new_text - before)) (drop (length new_text - before) deleted)) (hunks_of (drop (at + 1) cs))).rest
+      → IsAbsorptionOf mid post rest (absorption (get_or cs at d).new_range.start (pre ++ deleted) (hunks_of (drop at cs)))
+  absorbed_later lt old_text mid post rest old_is mid_is post_is rest_is = let n : length new_text - before ≡ length c.new_text - length pre = omega (arith, ap length new_is) in
+      let r : Absorption = absorption c.new_range.end (take (length deleted - (length new_text - before)) (drop (length new_text - before) deleted)) (hunks_of (drop (at + 1) cs)) in
       let whole = at_change ∙ goes_on cs at c within is pre deleted (omega (arith, size, before_in, ap length new_is)) r (omega (arith, size, lt, ap length new_is))
-      (ap (λ (xs : List ℕ). cover c.new_range.end xs (hunks_of (drop (at + 1) cs))) (slice_rest deleted (length new_text - before) ∙ ap (λ (k : ℕ). drop k deleted) n)) in (
-        mid_is ∙ (ap (λ (xs : List ℕ). xs ++ r.mid) old_is ∙ sym (ap (λ (x : Cover). x.mid) whole)),
-        post_is ∙ sym (ap (λ (x : Cover). x.post) whole),
-        rest_is ∙ sym (ap (λ (x : Cover). x.rest) whole),
+      (ap (λ (xs : List ℕ). absorption c.new_range.end xs (hunks_of (drop (at + 1) cs))) (slice_rest deleted (length new_text - before) ∙ ap (λ (k : ℕ). drop k deleted) n)) in (
+        mid_is ∙ (ap (λ (xs : List ℕ). xs ++ r.mid) old_is ∙ sym (ap (λ (x : Absorption). x.mid) whole)),
+        post_is ∙ sym (ap (λ (x : Absorption). x.post) whole),
+        rest_is ∙ sym (ap (λ (x : Absorption). x.rest) whole),
       )
 
 -- a point led on over three texts
@@ -124,38 +124,38 @@ led_three start e1 e2 e3 x y z first second third = third (traverse (traverse st
     ∙ ap capped (ap (λ (p : Point). traverse p (extent z)) (sym (extent_two start x y)) ∙ sym (extent_two start (x ++ y) z))
 
 -- what the code has found, as the change and those behind it
-pub joins_of : (cs : List Change) (first stop : ℕ) (a b old_start : Point) (pre deleted inserted mid post : List ℕ) (c : Cover) (j : Joint) → IsCoverOf mid post (hunks_of (drop stop cs)) c → first ≤ stop → stop ≤ length cs
+pub joins_of : (cs : List Change) (first stop : ℕ) (a b old_start : Point) (pre deleted inserted mid post : List ℕ) (c : Absorption) (j : Joint) → IsAbsorptionOf mid post (hunks_of (drop stop cs)) c → first ≤ stop → stop ≤ length cs
     → (j.first ≡ first) × (j.stop ≡ stop) → (j.old_text ≡ mid) × (j.new_text ≡ pre ++ inserted ++ post) → (j.old_start ≡ old_start) × (j.new_start ≡ b) → capped b ≡ b → old_start ≡ capped a
     → ((p : Point) → old_start ≡ capped p → j.old_end ≡ capped (traverse p (extent mid))) → j.new_end ≡ capped (traverse b (extent (pre ++ inserted ++ post))) → j.from ≡ capped (traverse b (extent (pre ++ deleted ++ post)))
-    → Joins (hunks_of cs) (joined a b pre deleted inserted c) j
-joins_of cs first stop a b old_start pre deleted inserted mid post c j is_cover low high list texts starts b_within old_start_is old_end new_end from = record {
+    → Joins (hunks_of cs) (one_change a b pre deleted inserted c) j
+joins_of cs first stop a b old_start pre deleted inserted mid post c j is_absorption low high list texts starts b_within old_start_is old_end new_end from = record {
   start = a;
   from = traverse b (extent (pre ++ deleted ++ c.post));
   low = omega (arith, list, low);
   high = omega (arith, list, high, length-map cs hunk_of);
   is = ap (λ (hs : List Hunk). change_at a b c.mid (pre ++ inserted ++ c.post) ++ map (moved_hunk (traverse b (extent (pre ++ deleted ++ c.post))) (traverse b (extent (pre ++ inserted ++ c.post)))) hs) rest_is
-      ∙ (ap (λ (xs : List ℕ). change_at a b xs (pre ++ inserted ++ c.post) ++ map (moved_hunk F (traverse b (extent (pre ++ inserted ++ c.post)))) (drop j.stop (hunks_of cs))) (sym is_cover.0 ∙ sym texts.0)
-      ∙ (ap (λ (xs : List ℕ). change_at a b j.old_text xs ++ map (moved_hunk F (traverse b (extent xs))) (drop j.stop (hunks_of cs))) (ap (λ (xs : List ℕ). pre ++ inserted ++ xs) (sym is_cover.1) ∙ sym texts.1)
+      ∙ (ap (λ (xs : List ℕ). change_at a b xs (pre ++ inserted ++ c.post) ++ map (moved_hunk F (traverse b (extent (pre ++ inserted ++ c.post)))) (drop j.stop (hunks_of cs))) (sym is_absorption.0 ∙ sym texts.0)
+      ∙ (ap (λ (xs : List ℕ). change_at a b j.old_text xs ++ map (moved_hunk F (traverse b (extent xs))) (drop j.stop (hunks_of cs))) (ap (λ (xs : List ℕ). pre ++ inserted ++ xs) (sym is_absorption.1) ∙ sym texts.1)
       ∙ ap (λ (x : Point). change_at a x j.old_text j.new_text ++ map (moved_hunk F (traverse x (extent j.new_text))) (drop j.stop (hunks_of cs))) (sym starts.1)));
   within = ap capped starts.1 ∙ (b_within ∙ sym starts.1);
   old_start = starts.0 ∙ old_start_is;
   old_end = old_end a old_start_is ∙ ap (λ (xs : List ℕ). capped (traverse a (extent xs))) (sym texts.0);
   new_end = new_end ∙ (ap (λ (xs : List ℕ). capped (traverse b (extent xs))) (sym texts.1) ∙ ap (λ (x : Point). capped (traverse x (extent j.new_text))) (sym starts.1));
-  from_is = from ∙ ap (λ (xs : List ℕ). capped (traverse b (extent (pre ++ deleted ++ xs)))) is_cover.1;
+  from_is = from ∙ ap (λ (xs : List ℕ). capped (traverse b (extent (pre ++ deleted ++ xs)))) is_absorption.1;
 }
   where
     F : Point
     F = traverse b (extent (pre ++ deleted ++ c.post))
 
     rest_is : c.rest ≡ drop j.stop (hunks_of cs)
-    rest_is = sym is_cover.2 ∙ (sym (drop-map hunk_of stop cs) ∙ ap (λ (n : ℕ). drop n (hunks_of cs)) (sym list.1))
+    rest_is = sym is_absorption.2 ∙ (sym (drop-map hunk_of stop cs) ∙ ap (λ (n : ℕ). drop n (hunks_of cs)) (sym list.1))
 
-pub joined_in : (cs : List Change) (at : ℕ) (c : Change) → at < length cs → c ≡ get_or cs at c → (start : Point) (deleted inserted pre : List ℕ) → pre ≡ units_before start (hunk_of c)
-    → joined c.old_range.start c.new_range.start pre deleted inserted (cover (get_or cs at c).new_range.start (pre ++ deleted) (hunks_of (drop at cs))) ≡ spliced_in start deleted inserted (hunk_of c) (hunks_of (drop (at + 1) cs))
-joined_in cs at c within is start deleted inserted pre pre_is =
-    ap (λ (y : Change). joined c.old_range.start c.new_range.start pre deleted inserted (cover y.new_range.start (pre ++ deleted) (hunks_of (drop at cs)))) (sym is)
-    ∙ (ap (λ (hs : List Hunk). joined c.old_range.start c.new_range.start pre deleted inserted (cover c.new_range.start (pre ++ deleted) hs)) (hunks_next cs at c within is)
-    ∙ ap (λ (xs : List ℕ). joined c.old_range.start c.new_range.start xs deleted inserted (cover c.new_range.start (xs ++ deleted) (hunk_of c ∷ hunks_of (drop (at + 1) cs)))) pre_is)
+pub one_change_in : (cs : List Change) (at : ℕ) (c : Change) → at < length cs → c ≡ get_or cs at c → (start : Point) (deleted inserted pre : List ℕ) → pre ≡ units_before start (hunk_of c)
+    → one_change c.old_range.start c.new_range.start pre deleted inserted (absorption (get_or cs at c).new_range.start (pre ++ deleted) (hunks_of (drop at cs))) ≡ spliced_in start deleted inserted (hunk_of c) (hunks_of (drop (at + 1) cs))
+one_change_in cs at c within is start deleted inserted pre pre_is =
+    ap (λ (y : Change). one_change c.old_range.start c.new_range.start pre deleted inserted (absorption y.new_range.start (pre ++ deleted) (hunks_of (drop at cs)))) (sym is)
+    ∙ (ap (λ (hs : List Hunk). one_change c.old_range.start c.new_range.start pre deleted inserted (absorption c.new_range.start (pre ++ deleted) hs)) (hunks_next cs at c within is)
+    ∙ ap (λ (xs : List ℕ). one_change c.old_range.start c.new_range.start xs deleted inserted (absorption c.new_range.start (xs ++ deleted) (hunk_of c ∷ hunks_of (drop (at + 1) cs)))) pre_is)
 
 -- facts on an answer, taken together
 pub if_ok : {X E : Type 0} (r : Result X E) (P Q : X → Type 0) → ((x : X) → P x → Q x) → IfOk r P → IfOk r Q

@@ -1,4 +1,5 @@
-pub mod PlaceLemmas
+pub mod ViewLemmas
+pub mod LookUpLemmas
 pub mod CopyLemmas
 pub mod ListLemmas
 pub mod GapLists
@@ -11,16 +12,17 @@ pub mod ShownPieces
 pub mod SurvivorLemmas
 pub mod FillLemmas
 pub mod SplicePieces
-pub mod CoverLemmas
+pub mod AbsorbLemmas
 pub mod StretchLemmas
 pub mod StretchPieces
 pub mod MovedLemmas
 mod MovedRows
 pub mod GapPieces
 pub mod SpliceLemmas
-pub mod CoverSteps
+pub mod AbsorbSteps
 pub mod JointLemmas
 pub mod SpliceSteps
 pub mod SpliceResult
 pub mod StandLemmas
 pub mod RunLemmas
+pub mod CountLemmas

@@ -8,8 +8,9 @@ use Rattle.std.proofs.lemmas.List.{drop_more}
 use Rattle.points.specs.declared.point.Point.{Point}
 use Rattle.points.specs.Point.{point_le, traversal}
 use Rattle.points.specs.Place.{extent, same_point}
+use Rattle.points.specs.Distance.{is_far}
 use Rattle.patch.specs.Hunk.{Hunk, hunk_of, hunks_of, inverted}
-use Rattle.patch.specs.ChangeList.{is_far, reaches_far, is_empty_change, is_behind, has_extents, fault_at, fault_from, IsOrdered}
+use Rattle.patch.specs.ChangeList.{reaches_far, is_empty_change, is_behind, has_extents, fault_at, fault_from, IsOrdered}
 use Rattle.patch.specs.declared.change.Change.{Change}
 use Rattle.patch.specs.declared.refusal.ListRefusal.{ListRefusal}
 

@@ -11,12 +11,13 @@ use Rattle.points.specs.Point.{origin, point_le, point_lt, traverse, traversal, 
 use Rattle.points.specs.Place.{extent, same_point}
 use Rattle.points.proofs.PointLemmas.{same_point-true, traverse_assoc, traverse_origin, traverse-origin, traverse-traversal, traversal-traverse, point_le-traverse, point_le-refl, point_le_trans, point_le-false, traverse_mono, traversal_mono}
 use Rattle.points.proofs.ExtentLemmas.{extent-append}
+use Rattle.points.specs.Distance.{is_far}
 use Rattle.patch.specs.Hunk.{Hunk, hunk_of, hunks_of}
-use Rattle.patch.specs.ChangeList.{is_far, is_empty_change, fault_at, fault_from, IsOrdered, IsPatch}
+use Rattle.patch.specs.ChangeList.{is_empty_change, fault_at, fault_from, IsOrdered, IsPatch}
 use Rattle.patch.specs.Stretches.{Part, part_seen, parts_seen, parts_of, change_by, laid_by, laid, any_far, Refuses}
 use Rattle.patch.specs.declared.stretch.Stretch.{Stretch}
 use Rattle.patch.specs.Splicing.{KeepsLimits}
-use Rattle.patch.specs.MovedOld.{moved_with, kept_start, with_start, kept_before, kept_of, placed, both, joined_from, joined, moved_old, RefusesMove}
+use Rattle.patch.specs.MovedOld.{moved_with, kept_start, with_start, with_kept, kept_of, placed, both, joined_from, joined, moved_old, RefusesMove}
 use Rattle.patch.specs.declared.refusal.PatchRefusal.{PatchRefusal}
 use Rattle.patch.specs.declared.refusal.PatchRefusal.TheVariants.{TooFar, TooMany, NoMemory}
 use Rattle.patch.specs.declared.change.Change.{Change}
@@ -96,7 +97,7 @@ module _ (start o n : Point) (from : point_le start o ≡ true) (to : point_le s
       (kept_row (at + 1) h.old_end h.new_end a hs parts.1 later (goes_next at a0 b0 a h sound here follows))
     where
       at_stays : (x y : Bool) → (x ≡ true → IsRow a (with_start h.old_start h ∷ kept_of start o n hs)) → (x ≡ false → y ≡ true → IsRow a (with_start (moved_with o n h.old_start) h ∷ kept_of start o n hs)) → IsRow a (kept_of start o n hs)
-          → IsRow a (kept_before (cond x (Some h.old_start) (cond y (Some (moved_with o n h.old_start)) None)) h (kept_of start o n hs))
+          → IsRow a (with_kept (cond x (Some h.old_start) (cond y (Some (moved_with o n h.old_start)) None)) h (kept_of start o n hs))
       at_stays true y stays moves goes = stays refl
       at_stays false true stays moves goes = moves refl refl
       at_stays false false stays moves goes = goes
@@ -219,7 +220,7 @@ few_kept : (start o n : Point) (hs : List Hunk) → length (kept_of start o n hs
 few_kept start o n [] = omega arith
 few_kept start o n (h ∷ hs) = at_start (kept_start start o n h.old_start h.old_end) (few_kept start o n hs)
   where
-    at_start : (x : Option Point) → length (kept_of start o n hs) ≤ length hs → length (kept_before x h (kept_of start o n hs)) ≤ length (h ∷ hs)
+    at_start : (x : Option Point) → length (kept_of start o n hs) ≤ length hs → length (with_kept x h (kept_of start o n hs)) ≤ length (h ∷ hs)
     at_start None few = omega arith
     at_start (Some x) few = omega arith
 
@@ -286,12 +287,12 @@ module _ (s o n : Point) (cs : List Change) (i : ℕ) (c : Change) (lt : i < len
 
   -- the next change goes
   pub goes : None ≡ kept_start s o n c.old_range.start c.old_range.end → kept_of s o n (hunks_of (drop i cs)) ≡ kept_of s o n (hunks_of (drop (i + 1) cs))
-  goes found = next ∙ ap (λ (x : Option Point). kept_before x (hunk_of c) (kept_of s o n (hunks_of (drop (i + 1) cs)))) (sym found)
+  goes found = next ∙ ap (λ (x : Option Point). with_kept x (hunk_of c) (kept_of s o n (hunks_of (drop (i + 1) cs)))) (sym found)
 
   -- or it is kept, with an old range that starts there and reaches as far as it did
   pub stays : (x y : Point) → Some x ≡ kept_start s o n c.old_range.start c.old_range.end → point_le x y ≡ true → traversal y x ≡ traversal c.old_range.end c.old_range.start → IsPatch (hunks_of cs)
       → kept_of s o n (hunks_of (drop i cs)) ≡ hunk_with x y c.new_range.start c.new_range.end c.old_text c.new_text ∷ kept_of s o n (hunks_of (drop (i + 1) cs))
-  stays x y found ordered reach is_patch = next ∙ (ap (λ (z : Option Point). kept_before z (hunk_of c) (kept_of s o n (hunks_of (drop (i + 1) cs)))) (sym found)
+  stays x y found ordered reach is_patch = next ∙ (ap (λ (z : Option Point). with_kept z (hunk_of c) (kept_of s o n (hunks_of (drop (i + 1) cs)))) (sym found)
       ∙ ap (λ (e : Point). hunk_with x e c.new_range.start c.new_range.end c.old_text c.new_text ∷ kept_of s o n (hunks_of (drop (i + 1) cs))) end_is)
     where
       text_is : traversal c.old_range.end c.old_range.start ≡ extent c.old_text
@@ -325,12 +326,15 @@ pub keeps_limits : (hs : List Hunk) → IsPatch hs → KeepsLimits hs
 keeps_limits hs is_patch = (near_from 0 origin origin hs is_patch.0, omega (arith, patch_few 0 origin origin hs is_patch.0 (omega arith)))
 
 -- what is answered for the kept stretches is answered for the move
-pub ok_moved : (r : Result (List Hunk) PatchRefusal) (ps : List Part) (m : List Hunk) → laid ps ≡ m → IfOk r (λ patch. (patch ≡ laid ps) × IsPatch (laid ps)) → IfOk r (λ patch. (patch ≡ m) × (any_far m ≡ false))
-ok_moved (Ok patch) ps m same h = (h.0 ∙ same, subst (λ (hs : List Hunk). any_far hs ≡ false) same (near_from 0 origin origin (laid ps) h.1.0))
-ok_moved (Err e) ps m same h = tt
+-- what is laid out from the stretches that are kept of a patch p, which is seen as hs
+pub laid_moved : (p hs : List Hunk) (start o n : Point) (ss ks : List Stretch) → hs ≡ p → IsMoved p start o n → ss ≡ ks → parts_seen ks ≡ parts_of origin (kept_of start o n hs)
+    → laid (parts_seen ss) ≡ moved_old p start o n
+laid_moved p hs start o n ss ks seen moved same kept = ap (λ (xs : List Stretch). laid (parts_seen xs)) same ∙ (ap laid (kept ∙ ap (λ (xs : List Hunk). parts_of origin (kept_of start o n xs)) seen) ∙ moved.made)
 
-pub err_moved : (r : Result (List Hunk) PatchRefusal) (ps : List Part) (m : List Hunk) → laid ps ≡ m → length m ≤ 2 ^ 24 → IfErr r (Refuses (laid ps)) → IfErr r (RefusesMove m)
-err_moved (Ok patch) ps m same few h = tt
-err_moved (Err TooFar) ps m same few h = subst (λ (hs : List Hunk). any_far hs ≡ true) same h
-err_moved (Err TooMany) ps m same few h = omega (arith, h.1, ap length same)
-err_moved (Err NoMemory) ps m same few h = tt
+pub made_near : (m : List Hunk) (ps : List Part) → laid ps ≡ m → IsPatch (laid ps) → any_far m ≡ false
+made_near m ps same is_patch = subst (λ (hs : List Hunk). any_far hs ≡ false) same (near_from 0 origin origin (laid ps) is_patch.0)
+
+pub err_moved : (e : PatchRefusal) (ps : List Part) (m : List Hunk) → laid ps ≡ m → length m ≤ 2 ^ 24 → Refuses (laid ps) e → RefusesMove m e
+err_moved TooFar ps m same few h = subst (λ (hs : List Hunk). any_far hs ≡ true) same h
+err_moved TooMany ps m same few h = omega (arith, h.1, ap length same)
+err_moved NoMemory ps m same few h = tt

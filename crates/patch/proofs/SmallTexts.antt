@@ -20,19 +20,19 @@ unfolding at
 same_units = refl
 
 -- on `abcdef`: `X` behind `a`, `Y` behind the `c`, and `bc` deleted between them
-joined : List Hunk
-joined = record { old_start = at 0 1; old_end = at 0 3; new_start = at 0 1; new_end = at 0 3; old_text = 98 ∷ 99 ∷ []; new_text = 88 ∷ 89 ∷ [] } ∷ []
+whole : List Hunk
+whole = record { old_start = at 0 1; old_end = at 0 3; new_start = at 0 1; new_end = at 0 3; old_text = 98 ∷ 99 ∷ []; new_text = 88 ∷ 89 ∷ [] } ∷ []
 
-insertions_and_a_deletion_join : gaps (97 ∷ 98 ∷ 99 ∷ 100 ∷ 101 ∷ 102 ∷ []) (run (tagged (97 ∷ 98 ∷ 99 ∷ 100 ∷ 101 ∷ 102 ∷ [])) ((1, 1, 88 ∷ []) ∷ (4, 4, 89 ∷ []) ∷ (2, 4, []) ∷ [])) ≡ joined
-unfolding at joined
+insertions_and_a_deletion_join : gaps (97 ∷ 98 ∷ 99 ∷ 100 ∷ 101 ∷ 102 ∷ []) (run (tagged (97 ∷ 98 ∷ 99 ∷ 100 ∷ 101 ∷ 102 ∷ [])) ((1, 1, 88 ∷ []) ∷ (4, 4, 89 ∷ []) ∷ (2, 4, []) ∷ [])) ≡ whole
+unfolding at whole
 insertions_and_a_deletion_join = refl
 
-applied_again : applied joined (97 ∷ 98 ∷ 99 ∷ 100 ∷ 101 ∷ 102 ∷ []) ≡ 97 ∷ 88 ∷ 89 ∷ 100 ∷ 101 ∷ 102 ∷ []
-unfolding at joined
+applied_again : applied whole (97 ∷ 98 ∷ 99 ∷ 100 ∷ 101 ∷ 102 ∷ []) ≡ 97 ∷ 88 ∷ 89 ∷ 100 ∷ 101 ∷ 102 ∷ []
+unfolding at whole
 applied_again = refl
 
-sources_again : map (source_at (tag joined (97 ∷ 98 ∷ 99 ∷ 100 ∷ 101 ∷ 102 ∷ []))) (0 ∷ 1 ∷ 2 ∷ 3 ∷ 4 ∷ 5 ∷ 6 ∷ []) ≡ Some 0 ∷ None ∷ None ∷ Some 3 ∷ Some 4 ∷ Some 5 ∷ None ∷ []
-unfolding at joined
+sources_again : map (source_at (tag whole (97 ∷ 98 ∷ 99 ∷ 100 ∷ 101 ∷ 102 ∷ []))) (0 ∷ 1 ∷ 2 ∷ 3 ∷ 4 ∷ 5 ∷ 6 ∷ []) ≡ Some 0 ∷ None ∷ None ∷ Some 3 ∷ Some 4 ∷ Some 5 ∷ None ∷ []
+unfolding at whole
 sources_again = refl
 
 -- changes on both sides of a row's end

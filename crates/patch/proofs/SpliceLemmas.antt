@@ -12,7 +12,7 @@ use Rattle.points.proofs.OffsetLemmas.{offset_of-at}
 use Rattle.patch.specs.Hunk.{Hunk}
 use Rattle.patch.specs.Tagged.{Tagged, tagged_from, untagged, units_of, edited, gaps}
 use Rattle.patch.specs.Fit.{StandsAt, Fits, tag, applied}
-use Rattle.patch.specs.Spliced.{change_at, moved_hunk, Cover, cover, joined, spliced_before, units_before, spliced_in, spliced_from}
+use Rattle.patch.specs.Spliced.{change_at, moved_hunk, Absorption, absorption, one_change, spliced_before, units_before, spliced_in, spliced_from}
 pub use Rattle.patch.specs.Spliced.{spliced}
 use Rattle.patch.proofs.GapLists.{IsGapList}
 use Rattle.patch.proofs.GapPieces.{AreGapsOf, gaps_made}
@@ -20,7 +20,7 @@ use Rattle.patch.proofs.Pieces.{Piece, old_of, new_of, tag_of, changes_of, is_no
 use Rattle.patch.proofs.PatchPieces.{hunk_between, shown, IsCut, cut_of_gaps}
 use Rattle.patch.proofs.ShownPieces.{units_of_pieces}
 use Rattle.patch.proofs.SplicePieces.{piece, edited_is, tagged-append, untagged-append, length-tagged, length-untagged, spread, spread_whole, shown_moved}
-use Rattle.patch.proofs.CoverLemmas.{IsCover, cover_is, shorter, behind_it, extent_two}
+use Rattle.patch.proofs.AbsorbLemmas.{IsAbsorption, absorption_is, shorter, behind_it, extent_two}
 
 -- pieces whose first stretch `kept` is cut off
 record IsFrom (a b : Point) (ps : List Piece) (tail kept : List ℕ) (qs : List Piece) (end : List ℕ) : Type 0 where
@@ -75,19 +75,19 @@ spread_some a b (p ∷ ps) some_units = ap (λ (hs : List Hunk). hs ++ spread (t
 
 -- the replacement starts behind what is kept and the new units `pre`
 module _ (a b : Point) (ps : List Piece) (tail kept pre deleted inserted : List ℕ) (qs : List Piece) (end : List ℕ) (from : IsFrom a b ps tail kept qs end)
-    (begins : (i : ℕ) → take (length pre) (tag_of i qs end) ≡ untagged pre) (c : Cover) (covers : IsCover (traverse a (extent kept)) (traverse b (extent kept)) qs end (pre ++ deleted) c)
+    (begins : (i : ℕ) → take (length pre) (tag_of i qs end) ≡ untagged pre) (c : Absorption) (absorbs : IsAbsorption (traverse a (extent kept)) (traverse b (extent kept)) qs end (pre ++ deleted) c)
     (some_kept : AllApart ps → 0 < length (kept ++ pre) → is_none kept ≡ false) where
-  joined_pieces : IsRespliced a b ps tail (kept ++ pre) deleted inserted (joined (traverse a (extent kept)) (traverse b (extent kept)) pre deleted inserted c)
-  joined_pieces = record {
-    pieces = piece kept c.mid (pre ++ inserted ++ c.post) ∷ covers.rest;
-    end = covers.rest_tail;
-    old_is = from.old_is ∙ ap (λ (xs : List ℕ). kept ++ xs) covers.covered.old_is;
-    tag_is = λ i. ap (λ (g : Tagged). edited g (length (kept ++ pre)) (length (kept ++ pre) + length deleted) inserted) (from.tag_is i ∙ ap (λ (g : Tagged). tagged_from i kept ++ g) (covers.covered.tag_is (i + length kept)))
-        ∙ edited_is (tagged_from i kept) (covers.covered.over (i + length kept)) (tag_of (i + length kept + length c.mid) covers.rest covers.rest_tail) pre c.post inserted (length (kept ++ pre)) (length deleted)
+  one_change_pieces : IsRespliced a b ps tail (kept ++ pre) deleted inserted (one_change (traverse a (extent kept)) (traverse b (extent kept)) pre deleted inserted c)
+  one_change_pieces = record {
+    pieces = piece kept c.mid (pre ++ inserted ++ c.post) ∷ absorbs.rest;
+    end = absorbs.rest_tail;
+    old_is = from.old_is ∙ ap (λ (xs : List ℕ). kept ++ xs) absorbs.absorbed.old_is;
+    tag_is = λ i. ap (λ (g : Tagged). edited g (length (kept ++ pre)) (length (kept ++ pre) + length deleted) inserted) (from.tag_is i ∙ ap (λ (g : Tagged). tagged_from i kept ++ g) (absorbs.absorbed.tag_is (i + length kept)))
+        ∙ edited_is (tagged_from i kept) (absorbs.absorbed.over (i + length kept)) (tag_of (i + length kept + length c.mid) absorbs.rest absorbs.rest_tail) pre c.post inserted (length (kept ++ pre)) (length deleted)
         (length-append kept pre ∙ omega (arith, length-tagged i kept)) (over_size (i + length kept)) (over_begins (i + length kept));
     is = ap (λ (hs : List Hunk). change_at A B c.mid (pre ++ inserted ++ c.post) ++ hs) rest_is;
-    behind = covers.apart;
-    apart = λ ps_apart some_before. (some_kept ps_apart some_before, covers.apart);
+    behind = absorbs.apart;
+    apart = λ ps_apart some_before. (some_kept ps_apart some_before, absorbs.apart);
   }
     where
       A : Point
@@ -96,43 +96,43 @@ module _ (a b : Point) (ps : List Piece) (tail kept pre deleted inserted : List 
       B : Point
       B = traverse b (extent kept)
 
-      over_size : (i : ℕ) → length (covers.covered.over i) ≡ length pre + length deleted
-      over_size i = covers.covered.over_size i ∙ length-append pre deleted
+      over_size : (i : ℕ) → length (absorbs.absorbed.over i) ≡ length pre + length deleted
+      over_size i = absorbs.absorbed.over_size i ∙ length-append pre deleted
 
-      over_begins : (i : ℕ) → take (length pre) (covers.covered.over i) ≡ untagged pre
-      over_begins i = sym (take-append-le (length pre) (covers.covered.over i) (untagged c.post ++ tag_of (i + length c.mid) covers.rest covers.rest_tail) (omega (arith, over_size i)))
-          ∙ (ap (take (length pre)) (sym (covers.covered.tag_is i)) ∙ begins i)
+      over_begins : (i : ℕ) → take (length pre) (absorbs.absorbed.over i) ≡ untagged pre
+      over_begins i = sym (take-append-le (length pre) (absorbs.absorbed.over i) (untagged c.post ++ tag_of (i + length c.mid) absorbs.rest absorbs.rest_tail) (omega (arith, over_size i)))
+          ∙ (ap (take (length pre)) (sym (absorbs.absorbed.tag_is i)) ∙ begins i)
 
-      rest_is : spread (traverse (traverse a (extent kept)) (extent c.mid)) (traverse (traverse b (extent kept)) (extent (pre ++ inserted ++ c.post))) covers.rest
+      rest_is : spread (traverse (traverse a (extent kept)) (extent c.mid)) (traverse (traverse b (extent kept)) (extent (pre ++ inserted ++ c.post))) absorbs.rest
           ≡ map (moved_hunk (traverse (traverse b (extent kept)) (extent (pre ++ deleted ++ c.post))) (traverse (traverse b (extent kept)) (extent (pre ++ inserted ++ c.post)))) c.rest
       rest_is =
           let A2 : Point = traverse (traverse a (extent kept)) (extent c.mid) in
           let from_ : Point = traverse (traverse b (extent kept)) (extent (pre ++ deleted ++ c.post)) in
           let to : Point = traverse (traverse b (extent kept)) (extent (pre ++ inserted ++ c.post)) in
-          spread_some A2 to covers.rest covers.some ∙ (ap (λ (x : Point). shown A2 x covers.rest) (sym (traverse_origin to)) ∙ (shown_moved from_ to A2 origin covers.rest
-          ∙ ap (map (moved_hunk from_ to)) (ap (λ (x : Point). shown A2 x covers.rest) (traverse_origin from_) ∙ sym covers.rest_is)))
+          spread_some A2 to absorbs.rest absorbs.some ∙ (ap (λ (x : Point). shown A2 x absorbs.rest) (sym (traverse_origin to)) ∙ (shown_moved from_ to A2 origin absorbs.rest
+          ∙ ap (map (moved_hunk from_ to)) (ap (λ (x : Point). shown A2 x absorbs.rest) (traverse_origin from_) ∙ sym absorbs.rest_is)))
 
 -- the replacement starts in what is kept before the first piece, or in the tail
 before_is : (a b start : Point) (ps : List Piece) (tail x deleted inserted z : List ℕ) (qs : List Piece) (end : List ℕ) → IsFrom a b ps tail x qs end → start ≡ traverse b (extent x) → new_of qs end ≡ deleted ++ z
     → IsRespliced a b ps tail x deleted inserted (spliced_before a b start deleted inserted (shown a b ps))
 before_is a b start ps tail x deleted inserted z qs end from start_is text_is = subst (IsRespliced a b ps tail x deleted inserted) (sym computed)
-    (subst (λ (xs : List ℕ). IsRespliced a b ps tail xs deleted inserted (joined (traverse a (extent x)) (traverse b (extent x)) [] deleted inserted c)) (append-nil x)
-    (joined_pieces a b ps tail x [] deleted inserted qs end from (λ i. refl) c covers (λ _ some_before. some_kept x (omega (arith, some_before, ap length (append-nil x))))))
+    (subst (λ (xs : List ℕ). IsRespliced a b ps tail xs deleted inserted (one_change (traverse a (extent x)) (traverse b (extent x)) [] deleted inserted c)) (append-nil x)
+    (one_change_pieces a b ps tail x [] deleted inserted qs end from (λ i. refl) c absorbs (λ _ some_before. some_kept x (omega (arith, some_before, ap length (append-nil x))))))
   where
-    c : Cover
-    c = cover (traverse b (extent x)) deleted (shown (traverse a (extent x)) (traverse b (extent x)) qs)
+    c : Absorption
+    c = absorption (traverse b (extent x)) deleted (shown (traverse a (extent x)) (traverse b (extent x)) qs)
 
-    covers : IsCover (traverse a (extent x)) (traverse b (extent x)) qs end deleted (cover (traverse b (extent x)) deleted (shown (traverse a (extent x)) (traverse b (extent x)) qs))
-    covers = cover_is (traverse a (extent x)) (traverse b (extent x)) qs end deleted z from.behind from.some text_is
+    absorbs : IsAbsorption (traverse a (extent x)) (traverse b (extent x)) qs end deleted (absorption (traverse b (extent x)) deleted (shown (traverse a (extent x)) (traverse b (extent x)) qs))
+    absorbs = absorption_is (traverse a (extent x)) (traverse b (extent x)) qs end deleted z from.behind from.some text_is
 
     some_kept : (xs : List ℕ) → 0 < length xs → is_none xs ≡ false
     some_kept [] lt = absurd (omega arith)
     some_kept (u ∷ us) lt = refl
 
-    computed : spliced_before a b start deleted inserted (shown a b ps) ≡ joined (traverse a (extent x)) (traverse b (extent x)) [] deleted inserted (cover (traverse b (extent x)) deleted (shown (traverse a (extent x)) (traverse b (extent x)) qs))
+    computed : spliced_before a b start deleted inserted (shown a b ps) ≡ one_change (traverse a (extent x)) (traverse b (extent x)) [] deleted inserted (absorption (traverse b (extent x)) deleted (shown (traverse a (extent x)) (traverse b (extent x)) qs))
     computed = ap (λ (s : Point). spliced_before a b s deleted inserted (shown a b ps)) start_is
-        ∙ (ap (λ (e : Point). joined (traverse a e) (traverse b (extent x)) [] deleted inserted (cover (traverse b (extent x)) deleted (shown a b ps))) (traversal-traverse b (extent x))
-        ∙ ap (λ (hs : List Hunk). joined (traverse a (extent x)) (traverse b (extent x)) [] deleted inserted (cover (traverse b (extent x)) deleted hs)) from.shown_is)
+        ∙ (ap (λ (e : Point). one_change (traverse a e) (traverse b (extent x)) [] deleted inserted (absorption (traverse b (extent x)) deleted (shown a b ps))) (traversal-traverse b (extent x))
+        ∙ ap (λ (hs : List Hunk). one_change (traverse a (extent x)) (traverse b (extent x)) [] deleted inserted (absorption (traverse b (extent x)) deleted hs)) from.shown_is)
 
 -- it starts in the first piece's new text, behind the units `pre` of it
 in_is : (a b start : Point) (p : Piece) (ps : List Piece) (tail pre post deleted inserted z : List ℕ) → AllApart ps → AllSome (p ∷ ps) → start ≡ traverse (traverse b (extent p.kept)) (extent pre) → p.new ≡ pre ++ post
@@ -140,7 +140,7 @@ in_is : (a b start : Point) (p : Piece) (ps : List Piece) (tail pre post deleted
     → IsRespliced a b (p ∷ ps) tail (p.kept ++ pre) deleted inserted (spliced_in start deleted inserted (hunk_between (traverse a (extent p.kept)) (traverse b (extent p.kept)) p.old p.new)
     (shown (traverse (traverse a (extent p.kept)) (extent p.old)) (traverse (traverse b (extent p.kept)) (extent p.new)) ps))
 in_is a b start p ps tail pre post deleted inserted z apart some_units start_is new_is text_is = subst (IsRespliced a b (p ∷ ps) tail (p.kept ++ pre) deleted inserted) (sym computed)
-    (joined_pieces a b (p ∷ ps) tail p.kept pre deleted inserted (piece [] p.old p.new ∷ ps) tail from begins c covers (λ ps_apart _. ps_apart.0))
+    (one_change_pieces a b (p ∷ ps) tail p.kept pre deleted inserted (piece [] p.old p.new ∷ ps) tail from begins c absorbs (λ ps_apart _. ps_apart.0))
   where
     A : Point
     A = traverse a (extent p.kept)
@@ -151,11 +151,11 @@ in_is a b start p ps tail pre post deleted inserted z apart some_units start_is 
     from : IsFrom a b (p ∷ ps) tail p.kept (piece [] p.old p.new ∷ ps) tail
     from = from_piece a b p ps tail p.kept [] (sym (append-nil p.kept)) apart some_units
 
-    c : Cover
-    c = cover (traverse b (extent p.kept)) (pre ++ deleted) (shown (traverse a (extent p.kept)) (traverse b (extent p.kept)) (piece [] p.old p.new ∷ ps))
+    c : Absorption
+    c = absorption (traverse b (extent p.kept)) (pre ++ deleted) (shown (traverse a (extent p.kept)) (traverse b (extent p.kept)) (piece [] p.old p.new ∷ ps))
 
-    covers : IsCover (traverse a (extent p.kept)) (traverse b (extent p.kept)) (piece [] p.old p.new ∷ ps) tail (pre ++ deleted) (cover (traverse b (extent p.kept)) (pre ++ deleted) (shown (traverse a (extent p.kept)) (traverse b (extent p.kept)) (piece [] p.old p.new ∷ ps)))
-    covers = cover_is (traverse a (extent p.kept)) (traverse b (extent p.kept)) (piece [] p.old p.new ∷ ps) tail (pre ++ deleted) z apart some_units text_is
+    absorbs : IsAbsorption (traverse a (extent p.kept)) (traverse b (extent p.kept)) (piece [] p.old p.new ∷ ps) tail (pre ++ deleted) (absorption (traverse b (extent p.kept)) (pre ++ deleted) (shown (traverse a (extent p.kept)) (traverse b (extent p.kept)) (piece [] p.old p.new ∷ ps)))
+    absorbs = absorption_is (traverse a (extent p.kept)) (traverse b (extent p.kept)) (piece [] p.old p.new ∷ ps) tail (pre ++ deleted) z apart some_units text_is
 
     begins : (i : ℕ) → take (length pre) (tag_of i (piece [] p.old p.new ∷ ps) tail) ≡ untagged pre
     begins i = ap (λ (xs : List ℕ). take (length pre) (untagged xs ++ tag_of (i + 0 + length p.old) ps tail)) new_is
@@ -172,9 +172,9 @@ in_is a b start p ps tail pre post deleted inserted z apart some_units start_is 
         begins_new = ap (take (length pre)) new_is ∙ take_at pre post (length pre) refl
 
     computed : spliced_in start deleted inserted (hunk_between (traverse a (extent p.kept)) (traverse b (extent p.kept)) p.old p.new) (shown (traverse (traverse a (extent p.kept)) (extent p.old)) (traverse (traverse b (extent p.kept)) (extent p.new)) ps)
-        ≡ joined (traverse a (extent p.kept)) (traverse b (extent p.kept)) pre deleted inserted (cover (traverse b (extent p.kept)) (pre ++ deleted) (shown (traverse a (extent p.kept)) (traverse b (extent p.kept)) (piece [] p.old p.new ∷ ps)))
-    computed = ap (λ (xs : List ℕ). joined (traverse a (extent p.kept)) (traverse b (extent p.kept)) xs deleted inserted (cover (traverse b (extent p.kept)) (xs ++ deleted) (shown a b (p ∷ ps)))) pre_is
-        ∙ ap (λ (hs : List Hunk). joined (traverse a (extent p.kept)) (traverse b (extent p.kept)) pre deleted inserted (cover (traverse b (extent p.kept)) (pre ++ deleted) hs)) from.shown_is
+        ≡ one_change (traverse a (extent p.kept)) (traverse b (extent p.kept)) pre deleted inserted (absorption (traverse b (extent p.kept)) (pre ++ deleted) (shown (traverse a (extent p.kept)) (traverse b (extent p.kept)) (piece [] p.old p.new ∷ ps)))
+    computed = ap (λ (xs : List ℕ). one_change (traverse a (extent p.kept)) (traverse b (extent p.kept)) xs deleted inserted (absorption (traverse b (extent p.kept)) (xs ++ deleted) (shown a b (p ∷ ps)))) pre_is
+        ∙ ap (λ (hs : List Hunk). one_change (traverse a (extent p.kept)) (traverse b (extent p.kept)) pre deleted inserted (absorption (traverse b (extent p.kept)) (pre ++ deleted) hs)) from.shown_is
 
 edited_behind : (f g : Tagged) (n j size : ℕ) (inserted : List ℕ) → n ≡ length f + j → edited (f ++ g) n (n + size) inserted ≡ f ++ edited g j (j + size) inserted
 edited_behind [] g n j size inserted n_is = let e : n ≡ j = omega arith in ap (λ (m : ℕ). edited g m (m + size) inserted) e

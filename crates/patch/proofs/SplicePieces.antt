@@ -1,4 +1,4 @@
--- One replacement in a tagged text made of pieces: the pieces up to it stay, those that it covers become one, and those behind it stay.
+-- One replacement in a tagged text made of pieces: the pieces up to it stay, those that it absorbs become one, and those behind it stay.
 use Rattle.std.proofs.Common.{◌≡◌, ℕ, suc, ◌+◌, List, [], ◌∷◌, ◌++◌, length, take, drop, map, cond, Bool, true, false, Some, None, refl, sym, ap, ◌∙◌, arith, append_assoc, length-append}
 use Rattle.std.proofs.lemmas.List.{append-nil, drop_at, take-append-le}
 use Rattle.points.specs.declared.point.Point.{Point}
@@ -52,25 +52,25 @@ pub record IsOpened (ps : List Piece) (tail : List ℕ) (front : List Piece) (ke
   pub old_is : old_of ps tail ≡ old_of front [] ++ (kept ++ old_of rest rest_tail)
   pub tag_is : (i : ℕ) → tag_of i ps tail ≡ tag_of i front [] ++ (tagged_from (i + length (old_of front [])) kept ++ tag_of (i + length (old_of front []) + length kept) rest rest_tail)
 
--- pieces of which `mid` is covered: `over` is the covered tagged text, and `post` the new units of the last covered piece that stand behind it
-pub record IsCovered (ps : List Piece) (tail : List ℕ) (size : ℕ) (mid post : List ℕ) (rest : List Piece) (rest_tail : List ℕ) : Type 0 where
+-- pieces of which `mid` is absorbed: `over` is the absorbed tagged text, and `post` the new units of the last absorbed piece that stand behind it
+pub record IsAbsorbed (ps : List Piece) (tail : List ℕ) (size : ℕ) (mid post : List ℕ) (rest : List Piece) (rest_tail : List ℕ) : Type 0 where
   pub old_is : old_of ps tail ≡ mid ++ old_of rest rest_tail
   pub over : ℕ → Tagged
   pub over_size : (i : ℕ) → length (over i) ≡ size
   pub tag_is : (i : ℕ) → tag_of i ps tail ≡ over i ++ (untagged post ++ tag_of (i + length mid) rest rest_tail)
 
--- nothing behind the covered units is touched
-pub covered_tail : (tail d z : List ℕ) → tail ≡ d ++ z → IsCovered [] tail (length d) d [] [] z
-covered_tail tail d z tail_is = record {
+-- nothing behind the absorbed units is touched
+pub absorbed_tail : (tail d z : List ℕ) → tail ≡ d ++ z → IsAbsorbed [] tail (length d) d [] [] z
+absorbed_tail tail d z tail_is = record {
   old_is = tail_is;
   over = λ i. tagged_from i d;
   over_size = λ i. length-tagged i d;
   tag_is = λ i. ap (tagged_from i) tail_is ∙ tagged-append i d z;
 }
 
--- the covered units end in what is kept before the first piece
-pub covered_kept : (p : Piece) (ps : List Piece) (tail d z : List ℕ) → p.kept ≡ d ++ z → IsCovered (p ∷ ps) tail (length d) d [] (piece z p.old p.new ∷ ps) tail
-covered_kept p ps tail d z kept_is = record {
+-- the absorbed units end in what is kept before the first piece
+pub absorbed_kept : (p : Piece) (ps : List Piece) (tail d z : List ℕ) → p.kept ≡ d ++ z → IsAbsorbed (p ∷ ps) tail (length d) d [] (piece z p.old p.new ∷ ps) tail
+absorbed_kept p ps tail d z kept_is = record {
   old_is = ap (λ (xs : List ℕ). xs ++ (p.old ++ old_of ps tail)) kept_is ∙ append_assoc d z (p.old ++ old_of ps tail);
   over = λ i. tagged_from i d;
   over_size = λ i. length-tagged i d;
@@ -81,8 +81,8 @@ covered_kept p ps tail d z kept_is = record {
 }
 
 -- they end in the first piece's new text, or at its end
-pub covered_new : (p : Piece) (ps : List Piece) (tail d post : List ℕ) → p.new ≡ d ++ post → IsCovered (p ∷ ps) tail (length p.kept + length d) (p.kept ++ p.old) post ps tail
-covered_new p ps tail d post new_is = record {
+pub absorbed_new : (p : Piece) (ps : List Piece) (tail d post : List ℕ) → p.new ≡ d ++ post → IsAbsorbed (p ∷ ps) tail (length p.kept + length d) (p.kept ++ p.old) post ps tail
+absorbed_new p ps tail d post new_is = record {
   old_is = sym (append_assoc p.kept p.old (old_of ps tail));
   over = λ i. tagged_from i p.kept ++ untagged d;
   over_size = λ i. length-append (tagged_from i p.kept) (untagged d) ∙ omega (arith, length-tagged i p.kept, length-untagged d);
@@ -93,9 +93,9 @@ covered_new p ps tail d post new_is = record {
 }
 
 -- they go on behind it
-pub covered_more : (p : Piece) (ps : List Piece) (tail : List ℕ) (size : ℕ) (mid post : List ℕ) (rest : List Piece) (rest_tail : List ℕ) → IsCovered ps tail size mid post rest rest_tail
-    → IsCovered (p ∷ ps) tail (length p.kept + length p.new + size) (p.kept ++ (p.old ++ mid)) post rest rest_tail
-covered_more p ps tail size mid post rest rest_tail h = record {
+pub absorbed_more : (p : Piece) (ps : List Piece) (tail : List ℕ) (size : ℕ) (mid post : List ℕ) (rest : List Piece) (rest_tail : List ℕ) → IsAbsorbed ps tail size mid post rest rest_tail
+    → IsAbsorbed (p ∷ ps) tail (length p.kept + length p.new + size) (p.kept ++ (p.old ++ mid)) post rest rest_tail
+absorbed_more p ps tail size mid post rest rest_tail h = record {
   old_is = ap (λ (xs : List ℕ). p.kept ++ (p.old ++ xs)) h.old_is ∙ sym (append_assoc p.kept (p.old ++ mid) (old_of rest rest_tail) ∙ ap (λ (xs : List ℕ). p.kept ++ xs) (append_assoc p.old mid (old_of rest rest_tail)));
   over = λ i. tagged_from i p.kept ++ (untagged p.new ++ h.over (i + length p.kept + length p.old));
   over_size = λ i. length-append (tagged_from i p.kept) (untagged p.new ++ h.over (i + length p.kept + length p.old)) ∙ omega (arith, length-append (untagged p.new) (h.over (i + length p.kept + length p.old)), length-tagged i p.kept, length-untagged p.new, h.over_size (i + length p.kept + length p.old));
@@ -141,12 +141,12 @@ edited_is before over after pre post ins j size j_is over_size begins =
     regroup = ap (λ (g : Tagged). g ++ (untagged post ++ after)) (append_assoc before (untagged pre) (untagged ins)) ∙ (append_assoc before (untagged pre ++ untagged ins) (untagged post ++ after)
         ∙ ap (λ (g : Tagged). before ++ g) (sym (append_assoc (untagged pre ++ untagged ins) (untagged post) after) ∙ ap (λ (g : Tagged). g ++ after) (ap (λ (g : Tagged). g ++ untagged post) (sym (untagged-append pre ins)) ∙ sym (untagged-append (pre ++ ins) post))))
 
--- the gaps after one replacement more: the covered pieces, `pre` and `post` of the change's new text beside the new units, have become one
-pub gaps_after : (s : List ℕ) (ps : List Piece) (tail : List ℕ) (front : List Piece) (kept pre : List ℕ) (covered : List Piece) (covered_end : List ℕ) (size : ℕ) (mid post : List ℕ) (rest : List Piece) (rest_tail ins : List ℕ) (j : ℕ)
-    → s ≡ old_of ps tail → IsOpened ps tail front kept pre covered covered_end → (h : IsCovered covered covered_end (length pre + size) mid post rest rest_tail)
+-- the gaps after one replacement more: the absorbed pieces, `pre` and `post` of the change's new text beside the new units, have become one
+pub gaps_after : (s : List ℕ) (ps : List Piece) (tail : List ℕ) (front : List Piece) (kept pre : List ℕ) (absorbed : List Piece) (absorbed_end : List ℕ) (size : ℕ) (mid post : List ℕ) (rest : List Piece) (rest_tail ins : List ℕ) (j : ℕ)
+    → s ≡ old_of ps tail → IsOpened ps tail front kept pre absorbed absorbed_end → (h : IsAbsorbed absorbed absorbed_end (length pre + size) mid post rest rest_tail)
     → ((i : ℕ) → take (length pre) (h.over i) ≡ untagged pre) → j ≡ length (new_of front []) + length kept + length pre
     → gaps s (edited (tag_of 0 ps tail) j (j + size) ins) ≡ changes_of origin origin [] [] (front ++ piece kept mid (pre ++ ins ++ post) ∷ rest)
-gaps_after s ps tail front kept pre covered covered_end size mid post rest rest_tail ins j s_is opened h begins j_is =
+gaps_after s ps tail front kept pre absorbed absorbed_end size mid post rest rest_tail ins j s_is opened h begins j_is =
     ap (gaps s) (ap (λ (g : Tagged). edited g j (j + size) ins) whole ∙ (edited_is (F ++ K) (h.over k) G pre post ins j size before_size (h.over_size k) (begins k) ∙ (append_assoc F K (untagged (pre ++ ins ++ post) ++ G) ∙ sym made)))
     ∙ gaps_of_pieces s (front ++ piece kept mid (pre ++ ins ++ post) ∷ rest) rest_tail (s_is ∙ (opened.old_is ∙ (ap (λ (xs : List ℕ). old_of front [] ++ (kept ++ xs)) h.old_is ∙ sym (old-append front (piece kept mid (pre ++ ins ++ post) ∷ rest) rest_tail))))
   where

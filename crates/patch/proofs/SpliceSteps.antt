@@ -10,9 +10,10 @@ use Rattle.points.specs.declared.point.Point.{Point}
 use Rattle.points.specs.Point.{origin, point_le, traverse, traversal}
 use Rattle.points.specs.Place.{extent}
 use Rattle.points.proofs.PointLemmas.{same_coordinates, at_row_column, traverse_origin}
+use Rattle.points.specs.Distance.{capped, is_far}
 use Rattle.patch.specs.Hunk.{Hunk, hunk_of, hunks_of}
-use Rattle.patch.specs.ChangeList.{is_far, reaches_far, fault_at, fault_from, IsOrdered, IsPatch}
-use Rattle.patch.specs.Stretches.{any_far, Refuses, capped}
+use Rattle.patch.specs.ChangeList.{reaches_far, fault_at, fault_from, IsOrdered, IsPatch}
+use Rattle.patch.specs.Stretches.{any_far, Refuses}
 use Rattle.patch.specs.Spliced.{change_at, moved_hunk, spliced}
 use Rattle.patch.specs.Splicing.{KeepsLimits}
 use Rattle.patch.specs.Joints.{Joins, is_empty_joint, is_far_joint, joint_change, joint_list}
@@ -22,7 +23,7 @@ use Rattle.patch.specs.declared.refusal.PatchRefusal.{PatchRefusal}
 use Rattle.patch.specs.declared.refusal.PatchRefusal.TheVariants as refusal
 use Rattle.patch.proofs.ListLemmas.{sound_from, both_none}
 use Rattle.patch.proofs.PatchPieces.{hunk_with}
-use Rattle.patch.proofs.CoverSteps.{hunks_next}
+use Rattle.patch.proofs.AbsorbSteps.{hunks_next}
 
 pub or_parts : (x y : Bool) → (x || y) ≡ false → (x ≡ false) × (y ≡ false)
 or_parts true y e = cc

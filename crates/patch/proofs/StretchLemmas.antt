@@ -7,10 +7,12 @@ use Rattle.std.proofs.lemmas.Bool.Decides.{nat_tests}
 use Rattle.points.specs.declared.point.Point.{Point}
 use Rattle.points.specs.Point.{origin, point_le, traverse, traversal}
 use Rattle.points.specs.Place.{extent, same_point}
+use Rattle.points.proofs.CapLemmas.{capped_behind, far_capped, near_capped}
 use Rattle.points.proofs.PointLemmas.{same_coordinates, same_point-refl, traverse_assoc, traverse_origin, traversal-traverse, point_le-traverse, at_row_column}
+use Rattle.points.specs.Distance.{capped, is_far, traverse_capped}
 use Rattle.patch.specs.Hunk.{Hunk, hunk_of, hunks_of}
-use Rattle.patch.specs.ChangeList.{is_far, reaches_far, fault_from, fault_of, IsPatch}
-use Rattle.patch.specs.Stretches.{Part, change_by, laid_by, laid, any_far, capped, traverse_capped}
+use Rattle.patch.specs.ChangeList.{reaches_far, fault_from, fault_of, IsPatch}
+use Rattle.patch.specs.Stretches.{Part, change_by, laid_by, laid, any_far}
 use Rattle.patch.specs.declared.change.Change.{Change}
 use Rattle.patch.specs.declared.refusal.ListRefusal.{ListRefusal}
 use Rattle.patch.proofs.ListLemmas.{IsSound, fault_none}
@@ -20,29 +22,6 @@ use Rattle.patch.proofs.PatchPieces.{hunk_with, hunk_between}
 -- one change more was tested
 pub far_next : (cs : List Change) (i : ℕ) (c : Change) → i < length cs → c ≡ get_or cs i c → any_far (hunks_of (drop i cs)) ≡ (reaches_far (hunk_of c) || any_far (hunks_of (drop (i + 1) cs)))
 far_next cs i c within is = ap (λ (xs : List Change). any_far (hunks_of xs)) (drop_more cs i c within) ∙ ap (λ (x : Change). reaches_far (hunk_of x) || any_far (hunks_of (drop (i + 1) cs))) (sym is)
-
--- no further than the farthest point whose coordinates are at most m
-abbrev cap : ℕ → Point → Point
-cap m p = cond (ltb m p.row) (at_row_column m m) (at_row_column p.row (min p.column m))
-
-cap_over : (m : ℕ) (a e : Point) → 0 < m → cap m (traverse a (cap m e)) ≡ cap m (traverse a e)
-cap_over m a e some = same_coordinates (cap m (traverse a (cap m e))) (cap m (traverse a e)) (grind (arith, nat_tests)) (grind (arith, nat_tests))
-
-cap_behind : (m : ℕ) (a e : Point) → 0 < m → cap m (traverse (cap m a) e) ≡ cap m (traverse a e)
-cap_behind m a e some = same_coordinates (cap m (traverse (cap m a) e)) (cap m (traverse a e)) (grind (arith, nat_tests)) (grind (arith, nat_tests))
-
--- a text may be reckoned with no further than that
-pub capped_over : (a e : Point) → traverse_capped a (capped e) ≡ traverse_capped a e
-capped_over a e = cap_over (2 ^ 32 - 1) a e (omega arith)
-
-pub capped_behind : (a e : Point) → traverse_capped (capped a) e ≡ capped (traverse a e)
-capped_behind a e = cap_behind (2 ^ 32 - 1) a e (omega arith)
-
-cap_le : (m : ℕ) (a e : Point) → a.row ≤ m → a.column ≤ m → point_le a (cap m (traverse a e)) ≡ true
-cap_le m a e rows columns = grind (arith, nat_tests)
-
-pub point_le-capped : (a e : Point) → a.row ≤ 2 ^ 32 - 1 → a.column ≤ 2 ^ 32 - 1 → point_le a (traverse_capped a e) ≡ true
-point_le-capped a e rows columns = cap_le (2 ^ 32 - 1) a e rows columns
 
 -- a change with such coordinates
 abbrev pub capped_hunk : Hunk → Hunk
@@ -80,19 +59,6 @@ laid_capped a b old new (p ∷ ps) =
         ∙ (ap (λ (hs : List Hunk). hs ++ laid_by traverse_capped (capped (traverse (traverse a (extent old)) p.kept)) (capped (traverse (traverse b (extent new)) p.kept)) p.old_text p.new_text ps) (change_capped a b old new)
         ∙ (ap (λ (hs : List Hunk). map capped_hunk (change_by traverse a b old new) ++ hs) apart
         ∙ sym (map-append capped_hunk (change_by traverse a b old new) (laid_by traverse (traverse (traverse a (extent old)) p.kept) (traverse (traverse b (extent new)) p.kept) p.old_text p.new_text ps)))))
-
-cap_far : (m n : ℕ) (p : Point) → n < m → (ltb n (cap m p).row || ltb n (cap m p).column) ≡ (ltb n p.row || ltb n p.column)
-cap_far m n p below = grind (arith, nat_tests)
-
-cap_near : (m n : ℕ) (p : Point) → n < m → (ltb n p.row || ltb n p.column) ≡ false → cap m p ≡ p
-cap_near m n p below near = same_coordinates (cap m p) p (grind (arith, nat_tests)) (grind (arith, nat_tests))
-
--- what reaches far with such coordinates does so, and what doesn't has its own coordinates
-far_capped : (p : Point) → is_far (capped p) ≡ is_far p
-far_capped p = cap_far (2 ^ 32 - 1) (2 ^ 30) p (omega arith)
-
-near_capped : (p : Point) → is_far p ≡ false → capped p ≡ p
-near_capped p near = cap_near (2 ^ 32 - 1) (2 ^ 30) p (omega arith) near
 
 reaches_capped : (h : Hunk) → reaches_far (capped_hunk h) ≡ reaches_far h
 reaches_capped h = ap (λ (x : Bool). x || is_far (capped h.old_end) || is_far (capped h.new_start) || is_far (capped h.new_end)) (far_capped h.old_start)

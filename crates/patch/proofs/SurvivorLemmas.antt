@@ -11,11 +11,12 @@ use Rattle.points.specs.Point.{origin, point_le, point_lt, traverse, traversal}
 use Rattle.points.specs.Place.{extent, point_at}
 use Rattle.points.proofs.PointLemmas.{point_le_trans, point_lt_le_trans, point_lt_not_le, point_le-traverse, traverse-origin, traversal-traverse}
 use Rattle.points.proofs.OffsetLemmas.{point_at_lt}
+use Rattle.points.specs.Distance.{near}
 use Rattle.patch.specs.Hunk.{Hunk, inverted}
 use Rattle.patch.specs.ChangeList.{IsPatch}
 use Rattle.patch.specs.Tagged.{Tagged, tagged_from, untagged, units_of}
 use Rattle.patch.specs.Fit.{Fits, applied}
-use Rattle.patch.specs.LookUp.{last_from, change_for_new, near, moved_to_new, moved_to_old, to_new, to_old}
+use Rattle.patch.specs.LookUp.{last_from, change_for_new, moved_to_new, moved_to_old, to_new, to_old}
 use Rattle.patch.specs.Surviving.{source_at, Survives}
 use Rattle.patch.proofs.SearchLemmas.{last-map}
 use Rattle.patch.proofs.Pieces.{Piece, old_of, new_of, tag_of}

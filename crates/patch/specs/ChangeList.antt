@@ -3,15 +3,13 @@ use Rattle.std.specs.Prelude.{ℕ, ◌+◌, ◌^◌, ◌==◌, ◌&&◌, ◌||�
 use Rattle.std.specs.Option.{option_or}
 use Rattle.std.specs.List.{All}
 use Rattle.points.specs.declared.point.Point.{Point}
+use Rattle.points.specs.declared.limits.TheConstants.{MAX_CHANGES}
 use Rattle.points.specs.Point.{origin, point_le, traversal}
 use Rattle.points.specs.Place.{extent, same_point}
+use Rattle.points.specs.Distance.{is_far}
 use Rattle.patch.specs.Hunk.{Hunk}
 use Rattle.patch.specs.declared.refusal.ListRefusal.{ListRefusal}
 use Rattle.patch.specs.declared.refusal.ListRefusal.TheVariants as fault
-
--- a coordinate of the point passes the greatest one
-abbrev pub is_far : Point → Bool
-is_far p = nat_lt (2 ^ 30) p.row || nat_lt (2 ^ 30) p.column
 
 -- a coordinate of the change passes the greatest one
 abbrev pub reaches_far : Hunk → Bool
@@ -37,7 +35,7 @@ fault_at at old_end new_end h = if not (is_behind old_end new_end h) then Some (
     else (if not (has_extents old_end new_end h) then Some (fault.ExtentMismatch at)
     else (if is_empty_change h then Some (fault.EmptyChange at)
     else (if reaches_far h then Some (fault.TooFar at)
-    else (if at == 2 ^ 24 then Some (fault.TooMany at) else None)))))
+    else (if at == MAX_CHANGES then Some (fault.TooMany at) else None)))))
 
 -- the first fault of changes that begin at index `at`
 abbrev pub fault_from : ℕ → Point → Point → List Hunk → Option ListRefusal

@@ -32,3 +32,7 @@ hunk_size h = length h.old_text + length h.new_text
 -- the change back: its sides exchanged
 abbrev pub inverted : Hunk → Hunk
 inverted h = record { old_start = h.new_start; old_end = h.new_end; new_start = h.old_start; new_end = h.old_end; old_text = h.new_text; new_text = h.old_text }
+
+-- a patch as contracts see it: its changes, in order
+pub record PatchView : Type 0 where
+  pub changes : List Hunk

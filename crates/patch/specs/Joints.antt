@@ -3,9 +3,8 @@ use Rattle.std.specs.Prelude.{◌≡◌, ◌≤◌, ◌==◌, ◌&&◌, ◌||◌
 use Rattle.points.specs.declared.point.Point.{Point}
 use Rattle.points.specs.Point.{traverse}
 use Rattle.points.specs.Place.{extent}
+use Rattle.points.specs.Distance.{capped, is_far}
 use Rattle.patch.specs.Hunk.{Hunk}
-use Rattle.patch.specs.ChangeList.{is_far}
-use Rattle.patch.specs.Stretches.{capped}
 use Rattle.patch.specs.Spliced.{change_at, moved_hunk}
 use Rattle.patch.specs.declared.joint.Joint.{Joint}
 

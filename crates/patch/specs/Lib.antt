@@ -8,5 +8,4 @@ pub mod Stretches
 pub mod MovedOld
 pub mod Splicing
 pub mod Spliced
-pub mod Counted
 pub mod Joints

@@ -4,8 +4,8 @@ use Rattle.std.specs.Option.{option_or}
 use Rattle.std.specs.List.{position_from}
 use Rattle.points.specs.declared.point.Point.{Point}
 use Rattle.points.specs.Point.{point_le, traverse, traversal}
+use Rattle.points.specs.Distance.{near}
 use Rattle.patch.specs.Hunk.{Hunk}
-use Rattle.patch.specs.ChangeList.{is_far}
 use Rattle.patch.specs.declared.change.Run.{Run}
 
 -- the index of the last item that passes, where the list starts at index i
@@ -32,10 +32,6 @@ changes_in_old p start end = run_where (λ h. point_le h.old_start end && point_
 -- the changes whose new range touches it
 abbrev pub changes_in_new : List Hunk → Point → Point → Run
 changes_in_new p start end = run_where (λ h. point_le h.new_start end && point_le start h.new_end) p
-
--- the point, where no coordinate of it passes the greatest one
-abbrev pub near : Point → Option Point
-near p = if is_far p then None else Some p
 
 -- the one that stands first
 abbrev pub first_of : Point → Point → Point

@@ -29,14 +29,14 @@ with_start start h = record {
 }
 
 -- a change more where it is kept
-abbrev pub kept_before : Option Point → Hunk → List Hunk → List Hunk
-kept_before None h ks = ks
-kept_before (Some start) h ks = with_start start h ∷ ks
+abbrev pub with_kept : Option Point → Hunk → List Hunk → List Hunk
+with_kept None h ks = ks
+with_kept (Some start) h ks = with_start start h ∷ ks
 
 -- the changes that are kept
 abbrev pub kept_of : Point → Point → Point → List Hunk → List Hunk
 kept_of start old_end new_end [] = []
-kept_of start old_end new_end (h ∷ hs) = kept_before (kept_start start old_end new_end h.old_start h.old_end) h (kept_of start old_end new_end hs)
+kept_of start old_end new_end (h ∷ hs) = with_kept (kept_start start old_end new_end h.old_start h.old_end) h (kept_of start old_end new_end hs)
 
 -- changes with their new ranges found anew: the first has these ends of the two texts before it
 abbrev pub placed : Point → Point → List Hunk → List Hunk

@@ -1,6 +1,7 @@
 -- One replacement more in the new text of a patch: where it may stand, what it makes of the patch, and the limits.
 use Rattle.std.specs.Prelude.{◌≡◌, ℕ, ◌+◌, ◌≤◌, ◌^◌, List, [], ◌∷◌, ◌++◌, length, false}
 use Rattle.points.specs.declared.point.Point.{Point}
+use Rattle.points.specs.declared.limits.TheConstants.{MAX_CHANGES}
 use Rattle.patch.specs.Hunk.{Hunk}
 use Rattle.patch.specs.Tagged.{tagged, edited, run, gaps}
 use Rattle.patch.specs.Fit.{StandsAt, Fits, tag, applied}
@@ -38,4 +39,4 @@ StandsForMore p start deleted inserted result = (s : List ℕ) (edits : List (�
 
 -- no coordinate passes the greatest one, and there are not too many changes
 abbrev pub KeepsLimits : List Hunk → Type 0
-KeepsLimits hs = (any_far hs ≡ false) × (length hs ≤ 2 ^ 24)
+KeepsLimits hs = (any_far hs ≡ false) × (length hs ≤ MAX_CHANGES)

@@ -1,8 +1,10 @@
 -- Stretches of an old text, one behind the other: how far the text stays, and what is taken out and put in behind that.
 use Rattle.std.specs.Prelude.{ℕ, ◌+◌, ◌-◌, ◌^◌, ◌==◌, ◌&&◌, ◌||◌, ◌≡◌, ◌<◌, IsTrue, List, [], ◌∷◌, ◌++◌, length, map, min, nat_lt, Bool, false, if◌then◌else◌}
 use Rattle.points.specs.declared.point.Point.{Point}
+use Rattle.points.specs.declared.limits.TheConstants.{MAX_CHANGES}
 use Rattle.points.specs.Point.{origin, traverse, traversal}
 use Rattle.points.specs.Place.{extent, same_point}
+use Rattle.points.specs.Distance.{traverse_capped}
 use Rattle.patch.specs.Hunk.{Hunk}
 use Rattle.patch.specs.Tagged.{Tagged, tagged_from, untagged}
 use Rattle.patch.specs.ChangeList.{reaches_far}
@@ -23,14 +25,6 @@ part_seen s = record { kept = s.kept; old_text = s.old_text.now; new_text = s.ne
 
 abbrev pub parts_seen : List Stretch → List Part
 parts_seen ss = map part_seen ss
-
--- the point, or the farthest one that coordinates can name on its row, or at all where its row can't be named
-abbrev pub capped : Point → Point
-capped p = if nat_lt (2 ^ 32 - 1) p.row then record { row = 2 ^ 32 - 1; column = 2 ^ 32 - 1 } else record { row = p.row; column = min p.column (2 ^ 32 - 1) }
-
--- where such a point leads over an extent
-abbrev pub traverse_capped : Point → Point → Point
-traverse_capped a b = capped (traverse a b)
 
 -- the change with these texts that starts at these points; none where both texts are empty. `go` leads from a point over an extent
 abbrev pub change_by : (Point → Point → Point) → Point → Point → List ℕ → List ℕ → List Hunk
@@ -78,5 +72,5 @@ any_far (h ∷ hs) = reaches_far h || any_far hs
 -- why there is no patch with these changes; want of memory has no cause
 abbrev pub Refuses : List Hunk → PatchRefusal → Type 0
 Refuses hs TooFar = IsTrue (any_far hs)
-Refuses hs TooMany = (any_far hs ≡ false) × (2 ^ 24 < length hs)
+Refuses hs TooMany = (any_far hs ≡ false) × (MAX_CHANGES < length hs)
 Refuses hs NoMemory = Unit {0}

@@ -1,5 +1,6 @@
 -- Tagged text: which units of an original text survive a run of edits, and the gaps between them.
-use Rattle.std.specs.Prelude.{ℕ, ◌+◌, ◌==◌, ◌&&◌, List, [], ◌∷◌, ◌++◌, length, take, drop, map, slice_range, if◌then◌else◌, Option, Some, None}
+use Rattle.std.specs.Prelude.{ℕ, ◌+◌, ◌≤◌, ◌==◌, ◌&&◌, List, [], ◌∷◌, ◌++◌, length, take, drop, map, slice_range, if◌then◌else◌, Option, Some, None}
+use Rattle.std.specs.List.{All}
 use Rattle.points.specs.Place.{extent, point_at}
 use Rattle.patch.specs.Hunk.{Hunk}
 
@@ -31,6 +32,10 @@ edited g i j t = take i g ++ untagged t ++ drop j g
 abbrev pub run : Tagged → List (ℕ × ℕ × List ℕ) → Tagged
 run g [] = g
 run g (e ∷ es) = run (edited g e.0 e.1 e.2) es
+
+-- each of these replacements ends at its start or behind it
+abbrev pub AreForward : List (ℕ × ℕ × List ℕ) → Type 0
+AreForward edits = All (λ e. e.0 ≤ e.1) edits
 
 -- the change between two neighbouring tagged units: it takes the units of s from offset i up to offset j,
 -- and has the new units t, behind the units `before` of the new text; none where both are empty

@@ -1,22 +1,20 @@
 //! The rules that a list of changes keeps, tested at each change in turn.
-ghost use Rattle.std.specs.Prelude.{◌≡◌, IsTrue};
+ghost use Rattle.std.specs.Prelude.{◌≡◌};
 ghost use Rattle.points.specs.Point.{origin};
 ghost use Rattle.patch.specs.Hunk.{hunk_of, hunks_of};
 ghost use Rattle.patch.specs.ChangeList.{reaches_far, is_empty_change, is_behind, has_extents, fault_at, fault_of};
 ghost use Rattle.patch.specs.Stretches.{any_far};
 
 use crate::change::Change;
-use crate::patch::MAX_CHANGES;
-use crate::place::{at_most, has_extent, is_far, same};
 use crate::refusal::ListRefusal;
-use points::{Point, traversal};
+use points::{MAX_CHANGES, Point, has_extent, traversal};
 
 /// The first change that breaks a rule, with the lowest rule that it breaks.
 pub(crate) fn first_fault(changes: &[Change]) -> Option<ListRefusal>
     ensures { result ≡ fault_of (hunks_of changes.now) }
 {
-    let mut old_end = Point { row: 0, column: 0 };
-    let mut new_end = Point { row: 0, column: 0 };
+    let mut old_end = Point::default();
+    let mut new_end = Point::default();
     for (at, change) in changes.iter().enumerate() {
         let refusal = fault_at(at, old_end, new_end, change);
         if refusal.is_some() {
@@ -35,7 +33,7 @@ fn fault_at(at: usize, old_end: Point, new_end: Point, change: &Change) -> Optio
     if !is_behind(old_end, new_end, change) {
         return Some(ListRefusal::NotSorted { at });
     }
-    if at > 0 && same(change.old_range.start, old_end) {
+    if at > 0 && change.old_range.start == old_end {
         return Some(ListRefusal::NotApart { at });
     }
     if !has_extents(old_end, new_end, change) {
@@ -57,17 +55,16 @@ fn fault_at(at: usize, old_end: Point, new_end: Point, change: &Change) -> Optio
 fn is_behind(old_end: Point, new_end: Point, change: &Change) -> bool
     ensures { result ≡ is_behind old_end new_end (hunk_of change.now) }
 {
-    at_most(old_end, change.old_range.start) && at_most(new_end, change.new_range.start)
+    old_end <= change.old_range.start && new_end <= change.new_range.start
 }
 
 // Whether its texts and the stretch before it have the extents that its ranges tell.
 fn has_extents(old_end: Point, new_end: Point, change: &Change) -> bool
-    requires { IsTrue (is_behind old_end new_end (hunk_of change.now)) }
     ensures { result ≡ has_extents old_end new_end (hunk_of change.now) }
 {
     let old = change.old_range;
     let new = change.new_range;
-    same(traversal(old.start, old_end), traversal(new.start, new_end))
+    traversal(old.start, old_end) == traversal(new.start, new_end)
         && has_extent(change.old_text.as_slice(), traversal(old.end, old.start))
         && has_extent(change.new_text.as_slice(), traversal(new.end, new.start))
 }
@@ -90,5 +87,5 @@ fn reaches_far(change: &Change) -> bool
 {
     let old = change.old_range;
     let new = change.new_range;
-    is_far(old.start) || is_far(old.end) || is_far(new.start) || is_far(new.end)
+    old.start.is_far() || old.end.is_far() || new.start.is_far() || new.end.is_far()
 }

@@ -1,13 +1,36 @@
-//! Lists of changes made from others: equal ones, and those with their sides exchanged.
-ghost use Rattle.std.specs.Prelude.{◌≡◌, map, IfOk};
+//! Patches made from others: an equal one, and the one back, with the sides of every change exchanged.
+ghost use Rattle.std.specs.Prelude.{◌≡◌, ℕ, List, map, IfOk};
 ghost use Rattle.patch.specs.Hunk.{hunk_of, hunks_of, inverted};
+ghost use Rattle.patch.specs.Fit.{Fits, applied};
 
 use crate::change::Change;
+use crate::patch::Patch;
 use points::NoMemory;
 use std::alloc::Global;
 
-/// Equal changes.
-pub(crate) fn copied(alloc: Global, changes: &[Change]) -> Result<Vec<Change>, NoMemory>
+impl Patch {
+    /// The patch back: the sides of every change exchanged.
+    pub fn invert(&self) -> Result<Patch, NoMemory>
+        ensures sides { IfOk result (λ patch. patch.changes ≡ map inverted self.now.changes) }
+        ensures back { IfOk result (λ patch. (s : List ℕ) → Fits self.now.changes s
+            → Fits patch.changes (applied self.now.changes s) × (applied patch.changes (applied self.now.changes s)
+            ≡ s)) }
+    {
+        let changes = turned(self.allocator(), self.as_slice())?;
+        Ok(Patch { changes })
+    }
+
+    /// An equal patch, over the same allocator.
+    pub fn try_clone(&self) -> Result<Patch, NoMemory>
+        ensures { IfOk result (λ patch. patch.changes ≡ self.now.changes) }
+    {
+        let changes = copied(self.allocator(), self.as_slice())?;
+        Ok(Patch { changes })
+    }
+}
+
+// Equal changes.
+fn copied(alloc: Global, changes: &[Change]) -> Result<Vec<Change>, NoMemory>
     ensures { IfOk result (λ copies. hunks_of copies.items ≡ hunks_of changes.now) }
 {
     let mut copies = Vec::with_capacity(alloc, changes.len())?;
@@ -17,21 +40,27 @@ pub(crate) fn copied(alloc: Global, changes: &[Change]) -> Result<Vec<Change>, N
     Ok(copies)
 }
 
-/// The changes with their sides exchanged.
-pub(crate) fn turned(alloc: Global, changes: &[Change]) -> Result<Vec<Change>, NoMemory>
+// The changes with their sides exchanged.
+fn turned(alloc: Global, changes: &[Change]) -> Result<Vec<Change>, NoMemory>
     ensures { IfOk result (λ turned. hunks_of turned.items ≡ map inverted (hunks_of changes.now)) }
 {
     let mut turned = Vec::with_capacity(alloc, changes.len())?;
     for change in changes {
-        let copy = copy_of(change)?;
-        turned.push(Change {
-            old_range: copy.new_range,
-            new_range: copy.old_range,
-            old_text: copy.new_text,
-            new_text: copy.old_text,
-        })?;
+        turned.push(turned_over(copy_of(change)?))?;
     }
     Ok(turned)
+}
+
+// The change with its sides exchanged.
+fn turned_over(change: Change) -> Change
+    ensures { hunk_of result ≡ inverted (hunk_of change) }
+{
+    Change {
+        old_range: change.new_range,
+        new_range: change.old_range,
+        old_text: change.new_text,
+        new_text: change.old_text,
+    }
 }
 
 // An equal change.

@@ -3,17 +3,16 @@ ghost use Rattle.std.specs.Prelude.{◌≡◌, ℕ, ◌+◌, ◌<◌, ◌≤◌,
 ghost use Rattle.points.specs.declared.point.Point.{Point};
 ghost use Rattle.points.specs.Point.{origin, point_le, traverse, traversal};
 ghost use Rattle.points.specs.Place.{extent};
+ghost use Rattle.points.specs.Distance.{capped};
 ghost use Rattle.patch.specs.Hunk.{Hunk, hunk_of, hunks_of};
 ghost use Rattle.patch.specs.ChangeList.{IsPatch};
-ghost use Rattle.patch.specs.Stretches.{capped};
-ghost use Rattle.patch.specs.Spliced.{cover, spliced, spliced_in, spliced_before, spliced_from, units_before};
+ghost use Rattle.patch.specs.Spliced.{absorption, spliced, spliced_in, spliced_before, spliced_from, units_before};
 ghost use Rattle.patch.specs.Joints.{last_old_end, last_new_end, Joins};
 ghost use Rattle.patch.specs.declared.change.Change.{Change};
 
+use crate::absorb::{Absorbed, absorb};
 use crate::change::Change;
-use crate::cover::{Covered, cover};
-use crate::place::{at_most, led_by, offset_in, traverse_capped, way};
-use points::{NoMemory, Point, Units};
+use points::{NoMemory, Point, Units, led_by, offset_of, traversal, traverse_capped};
 use std::alloc::Global;
 
 /// The change that a replacement makes, and where it stands in the list. A coordinate that passes
@@ -43,25 +42,37 @@ pub(crate) fn make_joint(
     inserted: &[u16],
 ) -> Result<Joint, NoMemory>
     requires { IsPatch (hunks_of changes.now) }
-    ensures { IfOk result (λ joint. (q : List Hunk) × (spliced (hunks_of changes.now) start deleted.now inserted.now ≡ take joint.first (hunks_of changes.now) ++ q) × Joins (hunks_of changes.now) q joint) }
+    ensures { IfOk result (λ joint. (q : List Hunk) × (spliced (hunks_of changes.now) start deleted.now inserted.now
+        ≡ take joint.first (hunks_of changes.now) ++ q) × Joins (hunks_of changes.now) q joint) }
 {
     let first = first_reaching(changes, start);
-    if first < changes.len() && at_most(changes[first].new_range.start, start) {
+    if first < changes.len() && starts_by(&changes[first], start) {
         joint_in(alloc, changes, first, start, deleted, inserted)
     } else {
         joint_before(alloc, changes, first, start, deleted, inserted)
     }
 }
 
+// Whether the change's new range starts at the point or before it.
+fn starts_by(change: &Change, point: Point) -> bool
+    ensures { result ≡ point_le change.now.new_range.start point }
+{
+    change.new_range.start <= point
+}
+
 // The first change whose new range ends at `start` or behind it.
 fn first_reaching(changes: &[Change], start: Point) -> usize
     requires { IsPatch (hunks_of changes.now) }
     ensures within { result ≤ length changes.now }
-    ensures value { (deleted inserted : List ℕ) → spliced (hunks_of changes.now) start deleted inserted ≡ take result (hunks_of changes.now)
-        ++ spliced_from (last_old_end origin (take result (hunks_of changes.now))) (last_new_end origin (take result (hunks_of changes.now))) start deleted inserted (hunks_of (drop result changes.now)) }
-    ensures reaches { result < length changes.now → (d : Change) → IsTrue (point_le start (slice_index_or changes.now result d).new_range.end) }
+    ensures value { (deleted inserted : List ℕ) → spliced (hunks_of changes.now) start deleted inserted
+        ≡ take result (hunks_of changes.now)
+        ++ spliced_from (last_old_end origin (take result (hunks_of changes.now)))
+        (last_new_end origin (take result (hunks_of changes.now))) start deleted inserted
+        (hunks_of (drop result changes.now)) }
+    ensures reaches { result < length changes.now → (d : Change)
+        → IsTrue (point_le start (slice_index_or changes.now result d).new_range.end) }
 {
-    changes.partition_point(|change| !at_most(start, change.new_range.end))
+    changes.partition_point(|change| change.new_range.end < start)
 }
 
 // The joint of a replacement that starts in the change at index `first`, or at one of its ends.
@@ -76,16 +87,17 @@ fn joint_in(
     requires { first < length changes.now }
     ensures first { IfOk result (λ joint. joint.first ≡ first) }
     ensures joins { IfOk result (λ joint. (d : Change) → Joins (hunks_of changes.now)
-        (spliced_in start deleted.now inserted.now (hunk_of (slice_index_or changes.now first d)) (hunks_of (drop (first + 1) changes.now))) joint) }
+        (spliced_in start deleted.now inserted.now (hunk_of (slice_index_or changes.now first d))
+        (hunks_of (drop (first + 1) changes.now))) joint) }
 {
     let change = &changes[first];
     let before = units_before(change, start);
-    let found = cover_from(changes, first, before.len(), deleted)?;
+    let found = absorb_from(changes, first, before.len(), deleted)?;
     let starts = Starts {
         old: change.old_range.start,
         new: change.new_range.start,
     };
-    join(alloc, first, starts, before, deleted, inserted, found)
+    joint_of(alloc, first, starts, before, deleted, inserted, found)
 }
 
 // The new units of the change before `start`.
@@ -94,39 +106,44 @@ fn units_before(change: &Change, start: Point) -> &[u16]
     ensures within { length result.now ≤ length change.now.new_text }
 {
     let units = change.new_text.as_slice();
-    match offset_in(units, way(start, change.new_range.start)) {
+    match offset_of(units, traversal(start, change.new_range.start)) {
         Some(at) => &units[..at],
         None => &units[..0],
     }
 }
 
-// What is covered from the change at index `at` on, by its first `before` new units and `deleted`
+// What is absorbed from the change at index `at` on, by its first `before` new units and `deleted`
 // behind them.
-fn cover_from<'a>(
+fn absorb_from<'a>(
     changes: &'a [Change],
     at: usize,
     before: usize,
     deleted: &[u16],
-) -> Result<Covered<'a>, NoMemory>
-    requires { (at < length changes.now) × ((d : Change) → before ≤ length (slice_index_or changes.now at d).new_text) }
+) -> Result<Absorbed<'a>, NoMemory>
+    requires { (at < length changes.now)
+        × ((d : Change) → before ≤ length (slice_index_or changes.now at d).new_text) }
     ensures stop { IfOk result (λ found. (at ≤ found.stop) × (found.stop ≤ length changes.now)) }
-    ensures covered { IfOk result (λ found. (d : Change) (pre : List ℕ) → length pre ≡ before
-        → (found.old_text ≡ (cover (slice_index_or changes.now at d).new_range.start (pre ++ deleted.now) (hunks_of (drop at changes.now))).mid)
-        × (found.post.now ≡ (cover (slice_index_or changes.now at d).new_range.start (pre ++ deleted.now) (hunks_of (drop at changes.now))).post)
-        × (hunks_of (drop found.stop changes.now) ≡ (cover (slice_index_or changes.now at d).new_range.start (pre ++ deleted.now) (hunks_of (drop at changes.now))).rest)) }
+    ensures absorbed { IfOk result (λ found. (d : Change) (pre : List ℕ) → length pre ≡ before
+        → (found.old_text ≡ (absorption (slice_index_or changes.now at d).new_range.start (pre
+        ++ deleted.now) (hunks_of (drop at changes.now))).mid)
+        × (found.post.now ≡ (absorption (slice_index_or changes.now at d).new_range.start (pre
+        ++ deleted.now) (hunks_of (drop at changes.now))).post)
+        × (hunks_of (drop found.stop changes.now)
+        ≡ (absorption (slice_index_or changes.now at d).new_range.start (pre
+        ++ deleted.now) (hunks_of (drop at changes.now))).rest)) }
 {
     let change = &changes[at];
     let new_text = change.new_text.as_slice();
     let behind = new_text.len() - before;
     let old_text = change.old_text.try_clone()?;
     if deleted.len() <= behind {
-        return Ok(Covered {
+        return Ok(Absorbed {
             stop: at + 1,
             old_text,
             post: &new_text[before + deleted.len()..],
         });
     }
-    cover(
+    absorb(
         changes,
         at + 1,
         change.new_range.end,
@@ -147,28 +164,31 @@ fn joint_before(
 ) -> Result<Joint, NoMemory>
     requires { first ≤ length changes.now }
     ensures first { IfOk result (λ joint. joint.first ≡ first) }
-    ensures joins { IfOk result (λ joint. Joins (hunks_of changes.now) (spliced_before (last_old_end origin (take first (hunks_of changes.now)))
-        (last_new_end origin (take first (hunks_of changes.now))) start deleted.now inserted.now (hunks_of (drop first changes.now))) joint) }
+    ensures joins { IfOk result (λ joint. Joins (hunks_of changes.now)
+        (spliced_before (last_old_end origin (take first (hunks_of changes.now)))
+        (last_new_end origin (take first (hunks_of changes.now))) start deleted.now inserted.now
+        (hunks_of (drop first changes.now))) joint) }
 {
-    let found = cover(changes, first, start, deleted, Units::new(alloc))?;
+    let found = absorb(changes, first, start, deleted, Units::new(alloc))?;
     let starts = Starts {
         old: old_place(changes, first, start),
         new: start,
     };
-    join(alloc, first, starts, &[], deleted, inserted, found)
+    joint_of(alloc, first, starts, &[], deleted, inserted, found)
 }
 
 // The point of the old text at the point `start` of the new one, which stands behind the changes
 // before index `first`.
 fn old_place(changes: &[Change], first: usize, start: Point) -> Point
     requires { first ≤ length changes.now }
-    ensures { result ≡ capped (traverse (last_old_end origin (take first (hunks_of changes.now))) (traversal start (last_new_end origin (take first (hunks_of changes.now))))) }
+    ensures { result ≡ capped (traverse (last_old_end origin (take first (hunks_of changes.now)))
+        (traversal start (last_new_end origin (take first (hunks_of changes.now))))) }
 {
     if first == 0 {
-        return traverse_capped(Point::default(), way(start, Point::default()));
+        return traverse_capped(Point::default(), traversal(start, Point::default()));
     }
     let change = &changes[first - 1];
-    traverse_capped(change.old_range.end, way(start, change.new_range.end))
+    traverse_capped(change.old_range.end, traversal(start, change.new_range.end))
 }
 
 // Where a joint starts, in the old and in the new text.
@@ -178,25 +198,29 @@ struct Starts {
     new: Point,
 }
 
-// The joint of the units `before`, of `inserted` and of what stands behind the covered units.
-fn join(
+// The joint of the units `before`, of `inserted` and of what stands behind the absorbed units.
+fn joint_of(
     alloc: Global,
     first: usize,
     starts: Starts,
     before: &[u16],
     deleted: &[u16],
     inserted: &[u16],
-    found: Covered<'_>,
+    found: Absorbed<'_>,
 ) -> Result<Joint, NoMemory>
     ensures list { IfOk result (λ joint. (joint.first ≡ first) × (joint.stop ≡ found.entry.stop)) }
-    ensures texts { IfOk result (λ joint. (joint.old_text ≡ found.entry.old_text) × (joint.new_text ≡ before.now ++ inserted.now ++ found.entry.post.now)) }
+    ensures texts { IfOk result (λ joint. (joint.old_text ≡ found.entry.old_text)
+        × (joint.new_text ≡ before.now ++ inserted.now ++ found.entry.post.now)) }
     ensures within { (capped starts.old ≡ starts.old) × (capped starts.new ≡ starts.new) }
     ensures starts { IfOk result (λ joint. (joint.old_start ≡ starts.old) × (joint.new_start ≡ starts.new)) }
-    ensures old_end { IfOk result (λ joint. (p : Point) → starts.old ≡ capped p → joint.old_end ≡ capped (traverse p (extent found.entry.old_text))) }
-    ensures new_end { IfOk result (λ joint. joint.new_end ≡ capped (traverse starts.new (extent (before.now ++ inserted.now ++ found.entry.post.now)))) }
-    ensures from { IfOk result (λ joint. joint.from ≡ capped (traverse starts.new (extent (before.now ++ deleted.now ++ found.entry.post.now)))) }
+    ensures old_end { IfOk result (λ joint. (p : Point) → starts.old ≡ capped p → joint.old_end
+        ≡ capped (traverse p (extent found.entry.old_text))) }
+    ensures new_end { IfOk result (λ joint. joint.new_end
+        ≡ capped (traverse starts.new (extent (before.now ++ inserted.now ++ found.entry.post.now)))) }
+    ensures from { IfOk result (λ joint. joint.from
+        ≡ capped (traverse starts.new (extent (before.now ++ deleted.now ++ found.entry.post.now)))) }
 {
-    let Covered {
+    let Absorbed {
         stop,
         old_text,
         post,

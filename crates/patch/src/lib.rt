@@ -5,23 +5,21 @@
 //! text that it fits. Points count rows and UTF-16 units, from 0.
 #![tactic(auto)]
 
+mod absorb;
 mod change;
 mod check;
 mod copies;
-mod cover;
 mod joint;
 pub mod laws;
 mod lookup;
 mod old_text;
 mod patch;
-pub mod place;
 mod refusal;
 mod splice;
 mod stretch;
-#[cfg(test)]
-mod tests;
 
-pub use change::{Change, ChangeView, Run};
-pub use patch::{MAX_CHANGES, Patch};
+pub use change::{Change, ChangeView, Changes, Run};
+pub use patch::Patch;
+pub use points::MAX_CHANGES;
 pub use refusal::{ListRefusal, PatchRefusal};
 pub use stretch::Stretch;

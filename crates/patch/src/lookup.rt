@@ -1,55 +1,95 @@
-//! Look-ups by halving: the starts of changes rise, and so do their ends.
-ghost use Rattle.std.specs.Prelude.{◌≡◌, ◌<◌, ◌-◌, IsTrue, IfSome, length, slice_index_or, nat_lt, if◌then◌else◌};
-ghost use Rattle.points.specs.Point.{point_le};
-ghost use Rattle.patch.specs.declared.change.Change.{Change};
-ghost use Rattle.patch.specs.Hunk.{hunks_of};
+//! Look-ups by halving: the starts of changes rise, and so do their ends. Which change a point belongs
+//! to, which changes a range touches, and where a point goes.
+ghost use Rattle.std.specs.Prelude.{◌≡◌, ◌-◌, ℕ, List, length, slice_get, nat_lt, if◌then◌else◌, Option, option_map, option_and_then};
+ghost use Rattle.points.specs.Place.{point_at};
+ghost use Rattle.points.specs.Distance.{near};
+ghost use Rattle.patch.specs.Hunk.{hunk_seen};
 ghost use Rattle.patch.specs.ChangeList.{IsPatch};
-ghost use Rattle.patch.specs.LookUp.{change_for_old, change_for_new, changes_in_old, changes_in_new, near, moved_over, to_new, to_old};
+ghost use Rattle.patch.specs.Fit.{Fits, applied};
+ghost use Rattle.patch.specs.Surviving.{Survives};
+ghost use Rattle.patch.specs.LookUp.{change_for_old, change_for_new, changes_in_old, changes_in_new, moved_over, to_new, to_old};
 
-use crate::change::{Change, Run};
-use crate::place::{at_most, leads_within, traverse_near};
-use points::{MAX_COORD, Point, Range, traversal};
+use crate::change::{ChangeView, Run};
+use crate::patch::Patch;
+use points::{Point, Range, leads_within, traversal, traverse_near};
 
-/// The last change whose old start is at most the point.
-pub(crate) fn change_for_old(changes: &[Change], point: Point) -> Option<usize>
-    requires { IsPatch (hunks_of changes.now) }
-    ensures value { result ≡ change_for_old (hunks_of changes.now) point }
-    ensures within { IfSome result (λ at. at < length changes.now) }
-    ensures starts { IfSome result (λ at. (d : Change) → IsTrue (point_le (slice_index_or changes.now at d).old_range.start point)) }
-{
-    let behind = changes.partition_point(|change| at_most(change.old_range.start, point));
-    behind.checked_sub(1)
-}
+impl Patch {
+    /// The last change whose old start is at most the point; none where all stand behind it.
+    pub fn change_for_old(&self, point: Point) -> Option<usize>
+        ensures { result ≡ change_for_old self.now.changes point }
+    {
+        let changes = self.as_slice();
+        let behind = changes.partition_point(|change| change.old_range.start <= point);
+        behind.checked_sub(1)
+    }
 
-/// The last change whose new start is at most the point.
-pub(crate) fn change_for_new(changes: &[Change], point: Point) -> Option<usize>
-    requires { IsPatch (hunks_of changes.now) }
-    ensures value { result ≡ change_for_new (hunks_of changes.now) point }
-    ensures within { IfSome result (λ at. at < length changes.now) }
-    ensures starts { IfSome result (λ at. (d : Change) → IsTrue (point_le (slice_index_or changes.now at d).new_range.start point)) }
-{
-    let behind = changes.partition_point(|change| at_most(change.new_range.start, point));
-    behind.checked_sub(1)
-}
+    /// The last change whose new start is at most the point; none where all stand behind it.
+    pub fn change_for_new(&self, point: Point) -> Option<usize>
+        ensures { result ≡ change_for_new self.now.changes point }
+    {
+        let changes = self.as_slice();
+        let behind = changes.partition_point(|change| change.new_range.start <= point);
+        behind.checked_sub(1)
+    }
 
-/// The changes whose old range touches the range.
-pub(crate) fn changes_in_old(changes: &[Change], range: Range) -> Run
-    requires { IsPatch (hunks_of changes.now) }
-    ensures { result ≡ changes_in_old (hunks_of changes.now) range.start range.end }
-{
-    let first = changes.partition_point(|change| !at_most(range.start, change.old_range.end));
-    let stop = changes.partition_point(|change| at_most(change.old_range.start, range.end));
-    run_between(first, stop)
-}
+    /// The changes whose old range starts at the range's end or before it and ends at its start or
+    /// behind it.
+    pub fn changes_in_old(&self, range: Range) -> Run
+        ensures { result ≡ changes_in_old self.now.changes range.start range.end }
+    {
+        let changes = self.as_slice();
+        let first = changes.partition_point(|change| change.old_range.end < range.start);
+        let stop = changes.partition_point(|change| change.old_range.start <= range.end);
+        run_between(first, stop)
+    }
 
-/// The changes whose new range touches the range.
-pub(crate) fn changes_in_new(changes: &[Change], range: Range) -> Run
-    requires { IsPatch (hunks_of changes.now) }
-    ensures { result ≡ changes_in_new (hunks_of changes.now) range.start range.end }
-{
-    let first = changes.partition_point(|change| !at_most(range.start, change.new_range.end));
-    let stop = changes.partition_point(|change| at_most(change.new_range.start, range.end));
-    run_between(first, stop)
+    /// The changes whose new range starts at the range's end or before it and ends at its start or
+    /// behind it.
+    pub fn changes_in_new(&self, range: Range) -> Run
+        ensures { result ≡ changes_in_new self.now.changes range.start range.end }
+    {
+        let changes = self.as_slice();
+        let first = changes.partition_point(|change| change.new_range.end < range.start);
+        let stop = changes.partition_point(|change| change.new_range.start <= range.end);
+        run_between(first, stop)
+    }
+
+    /// Where a point of the old text stands in the new one. At the end of a change or behind it,
+    /// it keeps its distance from the end; inside one, its distance from the start, up to the new
+    /// end. So the point of a unit that survives goes to its point in the new text. None where a
+    /// coordinate passes [`MAX_COORD`](points::MAX_COORD).
+    pub fn to_new(&self, point: Point) -> Option<Point>
+        ensures value { result ≡ to_new self.now.changes point }
+        ensures survivor { (s : List ℕ) (i j : ℕ) → Fits self.now.changes s → Survives self.now.changes s i j
+            → point ≡ point_at s i → result ≡ near (point_at (applied self.now.changes s) j) }
+    {
+        match self.change_if(self.change_for_old(point)) {
+            None => near(point),
+            Some(change) => moved_over(point, change.old_range, change.new_range),
+        }
+    }
+
+    /// Where a point of the new text stands in the old one, as [`to_new`](Patch::to_new) with the
+    /// sides exchanged.
+    pub fn to_old(&self, point: Point) -> Option<Point>
+        ensures value { result ≡ to_old self.now.changes point }
+        ensures survivor { (s : List ℕ) (i j : ℕ) → Fits self.now.changes s → Survives self.now.changes s i j
+            → point ≡ point_at (applied self.now.changes s) j → result ≡ near (point_at s i) }
+    {
+        match self.change_if(self.change_for_new(point)) {
+            None => near(point),
+            Some(change) => moved_over(point, change.new_range, change.old_range),
+        }
+    }
+
+    // The change at an index, where there is an index.
+    fn change_if(&self, at: Option<usize>) -> Option<ChangeView<'_>>
+        ensures value { option_map hunk_seen result ≡ option_and_then (slice_get self.now.changes) at }
+        ensures kept { IsPatch self.now.changes }
+    {
+        let _kept = self.as_slice();
+        self.change(at?)
+    }
 }
 
 // The run from one index up to another, or the empty one.
@@ -67,40 +107,11 @@ fn run_between(first: usize, stop: usize) -> Run
     }
 }
 
-/// Where a point of the old text stands in the new one.
-pub(crate) fn to_new(changes: &[Change], point: Point) -> Option<Point>
-    requires { IsPatch (hunks_of changes.now) }
-    ensures { result ≡ to_new (hunks_of changes.now) point }
-{
-    match change_for_old(changes, point) {
-        None => near(point),
-        Some(at) => {
-            let change = &changes[at];
-            moved_over(point, change.old_range, change.new_range)
-        }
-    }
-}
-
-/// Where a point of the new text stands in the old one.
-pub(crate) fn to_old(changes: &[Change], point: Point) -> Option<Point>
-    requires { IsPatch (hunks_of changes.now) }
-    ensures { result ≡ to_old (hunks_of changes.now) point }
-{
-    match change_for_new(changes, point) {
-        None => near(point),
-        Some(at) => {
-            let change = &changes[at];
-            moved_over(point, change.new_range, change.old_range)
-        }
-    }
-}
-
-/// Where a point goes that stands at the start of a replaced range, or behind it.
+// Where a point goes that stands at the start of a replaced range, or behind it.
 fn moved_over(point: Point, from: Range, to: Range) -> Option<Point>
-    requires { IsTrue (point_le from.start point) }
     ensures { result ≡ near (moved_over from.start from.end to.start to.end point) }
 {
-    if at_most(from.end, point) {
+    if from.end <= point {
         return traverse_near(to.end, traversal(point, from.end));
     }
     let reach = traversal(point, from.start);
@@ -111,13 +122,9 @@ fn moved_over(point: Point, from: Range, to: Range) -> Option<Point>
     }
 }
 
-/// The point, where no coordinate passes the greatest one.
+// The point, where no coordinate passes the greatest one.
 fn near(point: Point) -> Option<Point>
     ensures { result ≡ near point }
 {
-    if point.row > MAX_COORD || point.column > MAX_COORD {
-        None
-    } else {
-        Some(point)
-    }
+    if point.is_far() { None } else { Some(point) }
 }

@@ -1,3 +1,4 @@
+//! Why a list of changes is no patch, and why a patch isn't changed or made.
 ghost use Rattle.std.specs.Prelude.{◌≡◌};
 ghost use Rattle.patch.specs.declared.refusal.PatchRefusal.TheVariants.{NoMemory as no_memory};
 

@@ -1,13 +1,17 @@
-//! Changes laid out from stretches of the old text, one behind the other.
-ghost use Rattle.std.specs.Prelude.{◌≡◌, ◌++◌, [], ◌∷◌, List, IsTrue, IfOk, OnOk};
+//! Stretches of an old text, one behind the other, and the patch that is laid out from them.
+ghost use Rattle.std.specs.Prelude.{◌≡◌, ◌++◌, [], ◌∷◌, List, IsTrue, IfOk, IfErr, OnOk};
 ghost use Rattle.points.specs.Point.{origin, point_le};
 ghost use Rattle.points.specs.Place.{extent};
+ghost use Rattle.points.specs.Distance.{traverse_capped};
 ghost use Rattle.patch.specs.Hunk.{hunks_of};
-ghost use Rattle.patch.specs.Stretches.{Part, part_seen, parts_seen, laid_by, laid_behind, traverse_capped};
+ghost use Rattle.patch.specs.ChangeList.{IsPatch};
+ghost use Rattle.patch.specs.Stretches.{Part, part_seen, parts_seen, laid, laid_by, laid_behind, Refuses};
 
 use crate::change::Change;
-use crate::place::{extent_capped, same, traverse_capped};
-use points::{NoMemory, Point, Range, Units};
+use crate::check::any_far;
+use crate::patch::Patch;
+use crate::refusal::PatchRefusal;
+use points::{MAX_CHANGES, NoMemory, Point, Range, Units, extent_capped, traverse_capped};
 use std::alloc::Global;
 
 /// A stretch of an old text: how far the text stays, and what is taken out and put in behind that.
@@ -22,7 +26,7 @@ pub struct Stretch<'a> {
     pub new_text: &'a [u16],
 }
 
-/// A change to which more may be joined. Its coordinates count no further than a `u32` can.
+/// A change that more may join. Its coordinates count no further than a `u32` can.
 #[derive(Debug, Drop)]
 pub(crate) struct Open {
     pub old_start: Point,
@@ -31,34 +35,57 @@ pub(crate) struct Open {
     pub new_text: Units,
 }
 
-/// The changes that the stretches make, with coordinates that count no further than a `u32` can.
-pub(crate) fn laid(alloc: Global, stretches: &[Stretch<'_>]) -> Result<Vec<Change>, NoMemory>
-    ensures { IfOk result (λ changes. hunks_of changes.items ≡ laid_by traverse_capped origin origin [] [] (parts_seen stretches.now)) }
+impl Patch {
+    /// The patch of these stretches of an old text: those with nothing between become one change,
+    /// and those with no texts are none. Refused as `TooFar` where a coordinate would pass
+    /// [`MAX_COORD`](points::MAX_COORD), else as `TooMany` where there would be more than
+    /// [`MAX_CHANGES`] changes.
+    pub fn from_stretches(alloc: Global, stretches: &[Stretch<'_>]) -> Result<Self, PatchRefusal>
+        ensures made { IfOk result (λ patch. (patch.changes ≡ laid (parts_seen stretches.now))
+            × IsPatch (laid (parts_seen stretches.now))) }
+        ensures err { IfErr result (Refuses (laid (parts_seen stretches.now))) }
+    {
+        let changes = laid(alloc, stretches)?;
+        if any_far(changes.as_slice()) {
+            return Err(PatchRefusal::TooFar);
+        }
+        if changes.len() > MAX_CHANGES {
+            return Err(PatchRefusal::TooMany);
+        }
+        Ok(Patch { changes })
+    }
+}
+
+// The changes that the stretches make, with coordinates that count no further than a `u32` can.
+fn laid(alloc: Global, stretches: &[Stretch<'_>]) -> Result<Vec<Change>, NoMemory>
+    ensures { IfOk result (λ changes. hunks_of changes.items
+        ≡ laid_by traverse_capped origin origin [] [] (parts_seen stretches.now)) }
 {
     let mut changes = Vec::new(alloc);
     let mut last = Open {
-        old_start: Point { row: 0, column: 0 },
-        new_start: Point { row: 0, column: 0 },
+        old_start: Point::default(),
+        new_start: Point::default(),
         old_text: Units::new(alloc),
         new_text: Units::new(alloc),
     };
     for stretch in stretches {
-        last = joined(alloc, &mut changes, last, *stretch)?;
+        last = with_stretch(alloc, &mut changes, last, *stretch)?;
     }
     close(&mut changes, last)?;
     Ok(changes)
 }
 
 // The last change with one stretch more: where something stays before it, it is closed.
-fn joined(
+fn with_stretch(
     alloc: Global,
     changes: &mut Vec<Change>,
     last: Open,
     stretch: Stretch<'_>,
 ) -> Result<Open, NoMemory>
-    ensures { IfOk result (λ next. (ps : List Part) → hunks_of changes.new.items ++ laid_behind next ps ≡ hunks_of changes.old.items ++ laid_behind last (part_seen stretch.entry ∷ ps)) }
+    ensures { IfOk result (λ next. (ps : List Part) → hunks_of changes.new.items ++ laid_behind next ps
+        ≡ hunks_of changes.old.items ++ laid_behind last (part_seen stretch.entry ∷ ps)) }
 {
-    let mut last = if same(stretch.kept, Point { row: 0, column: 0 }) {
+    let mut last = if stretch.kept == Point::default() {
         last
     } else {
         opened_behind(alloc, changes, last, stretch.kept)?
@@ -76,8 +103,10 @@ fn opened_behind(
     kept: Point,
 ) -> Result<Open, NoMemory>
     ensures closed { OnOk result (hunks_of changes.new.items ≡ hunks_of changes.old.items ++ laid_behind last []) }
-    ensures old_start { IfOk result (λ next. next.old_start ≡ traverse_capped (traverse_capped last.old_start (extent last.old_text)) kept) }
-    ensures new_start { IfOk result (λ next. next.new_start ≡ traverse_capped (traverse_capped last.new_start (extent last.new_text)) kept) }
+    ensures old_start { IfOk result (λ next. next.old_start
+        ≡ traverse_capped (traverse_capped last.old_start (extent last.old_text)) kept) }
+    ensures new_start { IfOk result (λ next. next.new_start
+        ≡ traverse_capped (traverse_capped last.new_start (extent last.new_text)) kept) }
     ensures old_text { IfOk result (λ next. next.old_text ≡ []) }
     ensures new_text { IfOk result (λ next. next.new_text ≡ []) }
 {

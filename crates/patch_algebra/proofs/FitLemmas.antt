@@ -1,5 +1,6 @@
 -- Where a change's old text stands: between the offsets of its old range's ends, if anywhere.
 use Rattle.std.proofs.Common.{◌≡◌, ℕ, suc, zero, ◌+◌, ◌-◌, ◌<◌, ◌≤◌, List, [], ◌∷◌, length, take, drop, get_or, slice_range, slice_get, Bool, true, false, not, Option, Some, None, refl, sym, ap, ◌∙◌, subst, inl, inr, arith, length-drop, IsTrue, ◌↔◌, MatchBool, MatchOption}
+use Rattle.std.specs.List.{AllWithin, HoldsAt}
 use Rattle.std.specs.Option.{is_some}
 use Rattle.std.proofs.lemmas.List.{length-take-le}
 use Rattle.std.proofs.lemmas.Bool.{cases_eq, false≢true, not-true, not-false}
@@ -48,25 +49,11 @@ units_between s h from to from_is to_is fits = let a = same_some from fits.0 (sy
 pub end_within : (s : List ℕ) (p : Point) (to : ℕ) → offset_of s p ≡ Some to → to ≤ length s
 end_within s p to is = (offset_of-some s p to is).0
 
-pub got : {X : Type 0} (xs : List X) (i : ℕ) (x d : X) → slice_get xs i ≡ Some x → get_or xs i d ≡ x
-got [] i x d is = cc
-got (y ∷ xs) zero x d is = cc
-got (y ∷ xs) (suc i) x d is = got xs i x d is
-
-pub not_none : {X : Type 0} (xs : List X) (i : ℕ) → i < length xs → slice_get xs i ≡ None → ⊥
-not_none [] i lt none = omega arith
-not_none (y ∷ xs) zero lt none = cc
-not_none (y ∷ xs) (suc i) lt none = not_none xs i (omega arith) none
-
--- one change more fits
-pub fit_more : (s : List ℕ) (p : List Hunk) (i : ℕ) (h : Hunk) → i < length p → slice_get p i ≡ Some h → ((k : ℕ) (d : Hunk) → k < i → HunkFits s (get_or p k d)) → HunkFits s h → (k : ℕ) (d : Hunk) → k < i + 1 → HunkFits s (get_or p k d)
-fit_more s p i h within is before here k d lt = elim (cases_eq k i) [
-  | inl e ↦ subst (λ (n : ℕ). HunkFits s (get_or p n d)) (sym e) (subst (HunkFits s) (sym (got p i h d is)) here)
-  | inr ne ↦ before k d (omega arith)
-]
-
-pub misfit_here : (s : List ℕ) (p : List Hunk) (i : ℕ) (h : Hunk) → i < length p → slice_get p i ≡ Some h → ((k : ℕ) (d : Hunk) → k < i → HunkFits s (get_or p k d)) → (HunkFits s h → ⊥) → IsFirstMisfit p s i
-misfit_here s p i h within is before misfit = (within, before, λ d fits. misfit (subst (HunkFits s) (got p i h d is) fits))
+-- the first change that doesn't fit is the first misfit
+pub first_is : (p : List Hunk) (s : List ℕ) (r : Option ℕ) → MatchOption r (AllWithin (HunkFits s) p 0 (length p)) (λ i. (i < length p) × HoldsAt (λ (h : Hunk). HunkFits s h → ⊥) p i × AllWithin (HunkFits s) p 0 i)
+    → MatchOption r (Fits p s) (IsFirstMisfit p s)
+first_is p s None all = λ k d lt. all k d (omega arith) lt
+first_is p s (Some at) first = (first.0, λ k d lt. first.2 k d (omega arith) lt, first.1)
 
 -- the cases of the test, for a text that compares equal or not
 pub fits_if_equal : (s : List ℕ) (h : Hunk) (from to : ℕ) (units : List ℕ) (r : Bool) → offset_of s h.old_start ≡ Some from → offset_of s h.old_end ≡ Some to → from ≤ to → units ≡ slice_range s from to → MatchBool r (units ≡ h.old_text) (units ≡ h.old_text → ⊥) → IsTrue r ↔ HunkFits s h

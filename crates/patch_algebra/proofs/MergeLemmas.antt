@@ -10,7 +10,7 @@ use Rattle.points.specs.Place.{extent, offset_of, same_point}
 use Rattle.points.proofs.PointLemmas.{traverse_origin, traversal-traverse, point_le-traverse}
 use Rattle.points.proofs.ExtentLemmas.{extent-append, behind_whole}
 use Rattle.points.proofs.OffsetLemmas.{offset_of-at}
-use Rattle.patch.specs.Hunk.{Hunk}
+use Rattle.patch.specs.Hunk.{Hunk, PatchView}
 use Rattle.patch.specs.ChangeList.{IsPatch}
 use Rattle.patch.proofs.MovedLemmas.{keeps_limits}
 use Rattle.patch.specs.Tagged.{Tagged, tagged_from, tagged, untagged, units_of, gaps}
@@ -23,11 +23,11 @@ use Rattle.patch.proofs.Pieces.{Piece, old_of, new_of, tag_of, gaps_of_pieces}
 use Rattle.patch.proofs.PatchPieces.{shown, taken, IsCut, cut_of}
 use Rattle.patch.proofs.ShownPieces.{units_of_pieces}
 use Rattle.patch.proofs.GapPieces.{AreGapsOf, gaps_made}
-use Rattle.patch.proofs.SplicePieces.{piece, old-append, tag-append, tagged-append, length-tagged, length-tag, untagged-append, IsCovered, covered_tail, covered_kept, covered_new, covered_more}
-use Rattle.patch.proofs.CoverLemmas.{shorter, behind_it, extent_two, not_reached, reached}
+use Rattle.patch.proofs.SplicePieces.{piece, old-append, tag-append, tagged-append, length-tagged, length-tag, untagged-append, IsAbsorbed, absorbed_tail, absorbed_kept, absorbed_new, absorbed_more}
+use Rattle.patch.proofs.AbsorbLemmas.{shorter, behind_it, extent_two, not_reached, reached}
 use Rattle.patch_algebra.specs.Composing.{replaced_from, composed, FitsBoth, IsComposed, DoesBoth}
-use Rattle.patch_algebra.specs.Merging.{Between, between, part_to, part_between, parts_between, Opening, opened, units_before, left_of, opening, Covering, covered, taken_out, left_behind, covering, merged}
-use Rattle.patch_algebra.proofs.MergeSteps.{opening_stops, opening_passes, opening_cuts, covering_none, covering_ends, covering_more, left_none, left_some}
+use Rattle.patch_algebra.specs.Merging.{Between, between, part_to, part_between, parts_between, Opening, opened, cut_offset, left_of, opening, Removal, removal_made, taken_out, left_behind, removal, merged}
+use Rattle.patch_algebra.proofs.MergeSteps.{opening_stops, opening_passes, opening_cuts, removal_none, removal_ends, removal_more, left_none, left_some}
 
 -- stretches that are laid out alike behind any open change
 abbrev pub Alike : List Part → List Part → Type 0
@@ -200,14 +200,14 @@ module _ (b to : Point) (p : Piece) (ps : List Piece) (tail k z : List ℕ) (to_
         ends : point_le (traverse (traverse b (extent p.kept)) (extent p.new)) to ≡ false
         ends = subst (λ (x : Point). point_le x to ≡ false) (sym end_is) (past to (drop (length (drop (length p.kept) k)) p.new) (omega (arith, length-drop (length (drop (length p.kept) k)) p.new)))
 
-        units : units_before to (one_seen (traverse b (extent p.kept)) (traverse (traverse b (extent p.kept)) (extent p.new)) p.old p.new) ≡ length (drop (length p.kept) k)
+        units : cut_offset to (one_seen (traverse b (extent p.kept)) (traverse (traverse b (extent p.kept)) (extent p.new)) p.old p.new) ≡ length (drop (length p.kept) k)
         units = ap (λ (x : Point). unwrap_or (offset_of p.new x) 0) (ap (λ (x : Point). traversal x (traverse b (extent p.kept))) to_behind ∙ traversal-traverse (traverse b (extent p.kept)) (extent (drop (length p.kept) k)))
             ∙ ap (λ (o : Option ℕ). unwrap_or o 0) (reached (drop (length p.kept) k) p.new new_is (omega arith))
 
         taken : take (length (drop (length p.kept) k)) p.new ≡ drop (length p.kept) k
         taken = ap (take (length (drop (length p.kept) k))) new_is ∙ take_at (drop (length p.kept) k) (drop (length (drop (length p.kept) k)) p.new) (length (drop (length p.kept) k)) refl
 
-        computed : opened (part_to b (traverse b (extent p.kept)) p.old (take (units_before to m) p.new) ∷ []) to (left_of to m (drop (units_before to m) p.new) ∷ seen (traverse (traverse b (extent p.kept)) (extent p.new)) ps)
+        computed : opened (part_to b (traverse b (extent p.kept)) p.old (take (cut_offset to m) p.new) ∷ []) to (left_of to m (drop (cut_offset to m) p.new) ∷ seen (traverse (traverse b (extent p.kept)) (extent p.new)) ps)
             ≡ opened (part_to b (traverse b (extent p.kept)) p.old (drop (length p.kept) k) ∷ []) to (left_of to m (drop (length (drop (length p.kept) k)) p.new) ∷ seen (traverse (traverse b (extent p.kept)) (extent p.new)) ps)
         computed = ap (λ (n : ℕ). opened (part_to b (traverse b (extent p.kept)) p.old (take n p.new) ∷ []) to (left_of to m (drop n p.new) ∷ seen (traverse (traverse b (extent p.kept)) (extent p.new)) ps)) units
             ∙ ap (λ (xs : List ℕ). opened (part_to b (traverse b (extent p.kept)) p.old xs ∷ []) to (left_of to m (drop (length (drop (length p.kept) k)) p.new) ∷ seen (traverse (traverse b (extent p.kept)) (extent p.new)) ps)) taken
@@ -282,7 +282,7 @@ tag_left : (i : ℕ) (units : List ℕ) (ps : List Piece) (tail : List ℕ) → 
 tag_left i [] ps tail = refl
 tag_left i (u ∷ us) ps tail = let same : i + 0 + 0 ≡ i = omega arith in ap (λ (n : ℕ). untagged (u ∷ us) ++ tag_of n ps tail) same
 
--- what is left of a covered change, as it stands behind the covered units
+-- what is left of a change that is taken out in part, as it stands behind the units taken out
 seen_left : (end : Point) (m : Between) (units : List ℕ) (ps : List Piece) → m.end ≡ traverse end (extent units) → left_behind end m units (seen m.end ps) ≡ seen end (with_left units ps)
 seen_left end m [] ps end_is = left_none end m [] (seen m.end ps) refl ∙ ap (λ (x : Point). seen x ps) (end_is ∙ traverse_origin end)
 seen_left end m (u ∷ us) ps end_is = left_some end m (u ∷ us) (seen m.end ps) (λ e. absurd (not_empty e))
@@ -292,32 +292,32 @@ seen_left end m (u ∷ us) ps end_is = left_some end m (u ∷ us) (seen m.end ps
     not_empty : suc (length us) ≡ 0 → ⊥
     not_empty e = omega arith
 
--- what the units d cover of pieces, the first behind the point b: they end at the point `end`
-record IsCovering (b end : Point) (ps : List Piece) (tail d z : List ℕ) (v : Covering) : Type 0 where
+-- the removal of the units d of pieces, the first behind the point b: they end at the point `end`
+record IsRemoval (b end : Point) (ps : List Piece) (tail d z : List ℕ) (v : Removal) : Type 0 where
   mid : List ℕ
   post : List ℕ
   rest : List Piece
   rest_tail : List ℕ
-  pieces : IsCovered ps tail (length d) mid post rest rest_tail
+  pieces : IsAbsorbed ps tail (length d) mid post rest rest_tail
   new_is : post ++ new_of rest rest_tail ≡ z
   parts_is : TakesOut v.parts mid
   rest_is : v.rest ≡ seen end (with_left post rest)
 
-covering_tail : (b end : Point) (tail d z : List ℕ) → tail ≡ d ++ z → IsCovering b end [] tail d z (covered (taken_out d ∷ []) [])
-covering_tail b end tail d z text_is = record { mid = d; post = []; rest = []; rest_tail = z; pieces = covered_tail tail d z text_is; new_is = refl; parts_is = takes_one d; rest_is = refl }
+removal_tail : (b end : Point) (tail d z : List ℕ) → tail ≡ d ++ z → IsRemoval b end [] tail d z (removal_made (taken_out d ∷ []) [])
+removal_tail b end tail d z text_is = record { mid = d; post = []; rest = []; rest_tail = z; pieces = absorbed_tail tail d z text_is; new_is = refl; parts_is = takes_one d; rest_is = refl }
 
 module _ (b end : Point) (p : Piece) (ps : List Piece) (tail d z : List ℕ) (end_is : end ≡ traverse b (extent d)) (text_is : p.kept ++ (p.new ++ new_of ps tail) ≡ d ++ z) where
   abbrev c : Between
   c = one_seen (traverse b (extent p.kept)) (traverse (traverse b (extent p.kept)) (extent p.new)) p.old p.new
 
   -- the units end before the change
-  covering_kept : length d < length p.kept → IsCovering b end (p ∷ ps) tail d z (covering end b d (c ∷ seen (traverse (traverse b (extent p.kept)) (extent p.new)) ps))
-  covering_kept lt = subst (IsCovering b end (p ∷ ps) tail d z) (sym (covering_none end b d c (seen (traverse (traverse b (extent p.kept)) (extent p.new)) ps) none)) record {
+  removal_kept : length d < length p.kept → IsRemoval b end (p ∷ ps) tail d z (removal end b d (c ∷ seen (traverse (traverse b (extent p.kept)) (extent p.new)) ps))
+  removal_kept lt = subst (IsRemoval b end (p ∷ ps) tail d z) (sym (removal_none end b d c (seen (traverse (traverse b (extent p.kept)) (extent p.new)) ps) none)) record {
     mid = d;
     post = [];
     rest = piece w p.old p.new ∷ ps;
     rest_tail = tail;
-    pieces = covered_kept p ps tail d w kept_is;
+    pieces = absorbed_kept p ps tail d w kept_is;
     new_is = append_cancel_left d (w ++ (p.new ++ new_of ps tail)) z (sym (append_assoc d w (p.new ++ new_of ps tail)) ∙ (ap (λ (xs : List ℕ). xs ++ (p.new ++ new_of ps tail)) (sym kept_is) ∙ text_is));
     parts_is = takes_one d;
     rest_is = ap (λ (x : Point). one_seen x (traverse x (extent p.new)) p.old p.new ∷ seen (traverse x (extent p.new)) ps) start_is;
@@ -358,13 +358,13 @@ module _ (b end : Point) (p : Piece) (ps : List Piece) (tail d z : List ℕ) (en
     takes = subst (λ (xs : List ℕ). TakesOut (taken_out xs ∷ taken_out p.old ∷ []) (p.kept ++ p.old)) (sym begins) (takes_more p.kept p.old (taken_out p.old ∷ []) (takes_one p.old))
 
     -- they end in the change's new text, or at its end
-    covering_new : length (drop (length p.kept) d) ≤ length p.new → IsCovering b end (p ∷ ps) tail d z (covering end b d (c ∷ seen (traverse (traverse b (extent p.kept)) (extent p.new)) ps))
-    covering_new within = subst (IsCovering b end (p ∷ ps) tail d z) (sym (covering_ends end b d (length p.kept) c (seen (traverse (traverse b (extent p.kept)) (extent p.new)) ps) reach within)) record {
+    removal_new : length (drop (length p.kept) d) ≤ length p.new → IsRemoval b end (p ∷ ps) tail d z (removal end b d (c ∷ seen (traverse (traverse b (extent p.kept)) (extent p.new)) ps))
+    removal_new within = subst (IsRemoval b end (p ∷ ps) tail d z) (sym (removal_ends end b d (length p.kept) c (seen (traverse (traverse b (extent p.kept)) (extent p.new)) ps) reach within)) record {
       mid = p.kept ++ p.old;
       post = post;
       rest = ps;
       rest_tail = tail;
-      pieces = subst (λ (n : ℕ). IsCovered (p ∷ ps) tail n (p.kept ++ p.old) post ps tail) (sym sizes) (covered_new p ps tail (drop (length p.kept) d) post new_is);
+      pieces = subst (λ (n : ℕ). IsAbsorbed (p ∷ ps) tail n (p.kept ++ p.old) post ps tail) (sym sizes) (absorbed_new p ps tail (drop (length p.kept) d) post new_is);
       new_is = append_cancel_left (drop (length p.kept) d) (post ++ new_of ps tail) z (sym (append_assoc (drop (length p.kept) d) post (new_of ps tail)) ∙ (ap (λ (xs : List ℕ). xs ++ new_of ps tail) (sym new_is) ∙ behind_kept));
       parts_is = takes;
       rest_is = seen_left end c post ps (ap (λ (xs : List ℕ). traverse (traverse b (extent p.kept)) (extent xs)) new_is ∙ (extent_two (traverse b (extent p.kept)) (drop (length p.kept) d) post ∙ ap (λ (x : Point). traverse x (extent post)) (sym end_behind)));
@@ -386,17 +386,17 @@ module _ (b end : Point) (p : Piece) (ps : List Piece) (tail d z : List ℕ) (en
       end_left : end ≡ traverse (traverse (traverse b (extent p.kept)) (extent p.new)) (extent (drop (length p.new) (drop (length p.kept) d)))
       end_left = end_behind ∙ (ap (λ (xs : List ℕ). traverse (traverse b (extent p.kept)) (extent xs)) d1_is ∙ extent_two (traverse b (extent p.kept)) p.new (drop (length p.new) (drop (length p.kept) d)))
 
-      -- they cover the change whole, and more
-      covering_whole : (r : Covering) → IsCovering (traverse (traverse b (extent p.kept)) (extent p.new)) end ps tail (drop (length p.new) (drop (length p.kept) d)) z r
-          → r ≡ covering end (traverse (traverse b (extent p.kept)) (extent p.new)) (drop (length p.new) (drop (length p.kept) d)) (seen (traverse (traverse b (extent p.kept)) (extent p.new)) ps)
-          → IsCovering b end (p ∷ ps) tail d z (covering end b d (c ∷ seen (traverse (traverse b (extent p.kept)) (extent p.new)) ps))
-      covering_whole r h r_is = subst (IsCovering b end (p ∷ ps) tail d z) (sym (covering_more end b d (length p.kept) c (seen (traverse (traverse b (extent p.kept)) (extent p.new)) ps) reach longer
-          ∙ (ap (λ (v : Covering). covered (taken_out (take (length p.kept) d) ∷ taken_out p.old ∷ v.parts) v.rest) (sym r_is) ∙ ap (λ (xs : List ℕ). covered (taken_out xs ∷ taken_out p.old ∷ r.parts) r.rest) begins))) record {
+      -- they reach over the whole change, and more
+      removal_whole : (r : Removal) → IsRemoval (traverse (traverse b (extent p.kept)) (extent p.new)) end ps tail (drop (length p.new) (drop (length p.kept) d)) z r
+          → r ≡ removal end (traverse (traverse b (extent p.kept)) (extent p.new)) (drop (length p.new) (drop (length p.kept) d)) (seen (traverse (traverse b (extent p.kept)) (extent p.new)) ps)
+          → IsRemoval b end (p ∷ ps) tail d z (removal end b d (c ∷ seen (traverse (traverse b (extent p.kept)) (extent p.new)) ps))
+      removal_whole r h r_is = subst (IsRemoval b end (p ∷ ps) tail d z) (sym (removal_more end b d (length p.kept) c (seen (traverse (traverse b (extent p.kept)) (extent p.new)) ps) reach longer
+          ∙ (ap (λ (v : Removal). removal_made (taken_out (take (length p.kept) d) ∷ taken_out p.old ∷ v.parts) v.rest) (sym r_is) ∙ ap (λ (xs : List ℕ). removal_made (taken_out xs ∷ taken_out p.old ∷ r.parts) r.rest) begins))) record {
             mid = p.kept ++ (p.old ++ h.mid);
             post = h.post;
             rest = h.rest;
             rest_tail = h.rest_tail;
-            pieces = subst (λ (n : ℕ). IsCovered (p ∷ ps) tail n (p.kept ++ (p.old ++ h.mid)) h.post h.rest h.rest_tail) (sym all_sizes) (covered_more p ps tail (length (drop (length p.new) (drop (length p.kept) d))) h.mid h.post h.rest h.rest_tail h.pieces);
+            pieces = subst (λ (n : ℕ). IsAbsorbed (p ∷ ps) tail n (p.kept ++ (p.old ++ h.mid)) h.post h.rest h.rest_tail) (sym all_sizes) (absorbed_more p ps tail (length (drop (length p.new) (drop (length p.kept) d))) h.mid h.post h.rest h.rest_tail h.pieces);
             new_is = h.new_is;
             parts_is = takes_more p.kept (p.old ++ h.mid) (taken_out p.old ∷ r.parts) (takes_more p.old h.mid r.parts h.parts_is);
             rest_is = h.rest_is;
@@ -405,14 +405,14 @@ module _ (b end : Point) (p : Piece) (ps : List Piece) (tail d z : List ℕ) (en
           all_sizes : length d ≡ length p.kept + length p.new + length (drop (length p.new) (drop (length p.kept) d))
           all_sizes = omega (arith, sizes, ap length d1_is, length-append p.new (drop (length p.new) (drop (length p.kept) d)))
 
-covering_is : (b end : Point) (ps : List Piece) (tail d z : List ℕ) → end ≡ traverse b (extent d) → new_of ps tail ≡ d ++ z → IsCovering b end ps tail d z (covering end b d (seen b ps))
-covering_is b end [] tail d z end_is text_is = covering_tail b end tail d z text_is
-covering_is b end (p ∷ ps) tail d z end_is text_is = elim (cases_lt (length d) (length p.kept)) [
-  | inl lt ↦ covering_kept b end p ps tail d z end_is text_is lt
+removal_is : (b end : Point) (ps : List Piece) (tail d z : List ℕ) → end ≡ traverse b (extent d) → new_of ps tail ≡ d ++ z → IsRemoval b end ps tail d z (removal end b d (seen b ps))
+removal_is b end [] tail d z end_is text_is = removal_tail b end tail d z text_is
+removal_is b end (p ∷ ps) tail d z end_is text_is = elim (cases_lt (length d) (length p.kept)) [
+  | inl lt ↦ removal_kept b end p ps tail d z end_is text_is lt
   | inr le ↦ elim (cases_lt (length p.new) (length (drop (length p.kept) d))) [
-    | inr within ↦ covering_new b end p ps tail d z end_is text_is le within
-    | inl longer ↦ covering_whole b end p ps tail d z end_is text_is le longer (covering end (traverse (traverse b (extent p.kept)) (extent p.new)) (drop (length p.new) (drop (length p.kept) d)) (seen (traverse (traverse b (extent p.kept)) (extent p.new)) ps))
-        (covering_is (traverse (traverse b (extent p.kept)) (extent p.new)) end ps tail (drop (length p.new) (drop (length p.kept) d)) z (end_left b end p ps tail d z end_is text_is le longer) (text_left b end p ps tail d z end_is text_is le longer)) refl
+    | inr within ↦ removal_new b end p ps tail d z end_is text_is le within
+    | inl longer ↦ removal_whole b end p ps tail d z end_is text_is le longer (removal end (traverse (traverse b (extent p.kept)) (extent p.new)) (drop (length p.new) (drop (length p.kept) d)) (seen (traverse (traverse b (extent p.kept)) (extent p.new)) ps))
+        (removal_is (traverse (traverse b (extent p.kept)) (extent p.new)) end ps tail (drop (length p.new) (drop (length p.kept) d)) z (end_left b end p ps tail d z end_is text_is le longer) (text_left b end p ps tail d z end_is text_is le longer)) refl
   ]
 ]
 
@@ -451,8 +451,8 @@ takes_behind k mid new vs parts qs takes alike a b old n = at_kept (same_point k
     at_kept true joins apart = joins
     at_kept false joins apart = ap (λ (hs : List Hunk). change_by traverse a b old n ++ hs) apart
 
-module _ (b : Point) (ps : List Piece) (tail : List ℕ) (q : Piece) (qs : List Piece) (z : List ℕ) (to end : Point) (o : Opening) (v : Covering) (parts : List Part)
-    (h : IsOpening b to ps tail q.kept (q.old ++ z) o) (w : IsCovering to end h.rest h.rest_tail q.old z v) (later : IsMerged end (with_left w.post w.rest) w.rest_tail qs parts) where
+module _ (b : Point) (ps : List Piece) (tail : List ℕ) (q : Piece) (qs : List Piece) (z : List ℕ) (to end : Point) (o : Opening) (v : Removal) (parts : List Part)
+    (h : IsOpening b to ps tail q.kept (q.old ++ z) o) (w : IsRemoval to end h.rest h.rest_tail q.old z v) (later : IsMerged end (with_left w.post w.rest) w.rest_tail qs parts) where
   -- the pieces of both, with the next change of the second patch
   abbrev both : List Piece
   both = h.front ++ piece h.kept w.mid q.new ∷ later.pieces
@@ -515,12 +515,12 @@ merge_is b c ps tail [] tail' text_is = merged_none b ps tail
 merge_is b c ps tail (q ∷ qs) tail' text_is =
     let to : Point = traverse b (extent q.kept) in let end : Point = traverse to (extent q.old) in let z : List ℕ = old_of qs tail' in let c2 : Point = traverse (traverse c (extent q.kept)) (extent q.new) in
     let h = opening_is b to ps tail q.kept (q.old ++ z) refl text_is in
-    let w = covering_is to end h.rest h.rest_tail q.old z refl h.rest_new in
+    let w = removal_is to end h.rest h.rest_tail q.old z refl h.rest_new in
     let later = merge_is end c2 (with_left w.post w.rest) w.rest_tail qs tail' (new_left w.post w.rest w.rest_tail ∙ w.new_is) in
     let o : Opening = opening b to (seen b ps) in
-    subst (λ (ms : List Between). IsMerged b ps tail (q ∷ qs) (o.parts ++ part_to o.place to [] q.new ∷ ((covering end to q.old ms).parts ++ merged end (covering end to q.old ms).rest (shown end c2 qs)))) (sym h.rest_is)
-    (subst (λ (ms : List Between). IsMerged b ps tail (q ∷ qs) (o.parts ++ part_to o.place to [] q.new ∷ ((covering end to q.old (seen to h.rest)).parts ++ merged end ms (shown end c2 qs)))) (sym w.rest_is)
-    (merged_next b ps tail q qs z to end o (covering end to q.old (seen to h.rest)) (merged end (seen end (with_left w.post w.rest)) (shown end c2 qs)) h w later))
+    subst (λ (ms : List Between). IsMerged b ps tail (q ∷ qs) (o.parts ++ part_to o.place to [] q.new ∷ ((removal end to q.old ms).parts ++ merged end (removal end to q.old ms).rest (shown end c2 qs)))) (sym h.rest_is)
+    (subst (λ (ms : List Between). IsMerged b ps tail (q ∷ qs) (o.parts ++ part_to o.place to [] q.new ∷ ((removal end to q.old (seen to h.rest)).parts ++ merged end ms (shown end c2 qs)))) (sym w.rest_is)
+    (merged_next b ps tail q qs z to end o (removal end to q.old (seen to h.rest)) (merged end (seen end (with_left w.post w.rest)) (shown end c2 qs)) h w later))
 
 -- the units of tagged texts, cut
 units_drop : (n : ℕ) (g : Tagged) → units_of (drop n g) ≡ drop n (units_of g)
@@ -646,18 +646,18 @@ module _ (p q : List Hunk) (ps : List Part) (p_is : IsPatch p) (q_is : IsPatch q
   does_both = λ s both. let does = both_are p q s p_is q_is both in
       (subst (λ (hs : List Hunk). Fits hs s) (ap laid (sym ps_is)) does.fits, ap (λ (hs : List Hunk). applied hs s) (ap laid ps_is) ∙ does.in_turn)
 
-  pub ok_composed : (r : Result (List Hunk) PatchRefusal) → IfOk r (λ patch. (patch ≡ laid ps) × IsPatch (laid ps)) → IfOk r (IsComposed p q)
+  pub ok_composed : (r : Result PatchView PatchRefusal) → IfOk r (λ patch. (patch.changes ≡ laid ps) × IsPatch (laid ps)) → IfOk r (λ patch. IsComposed p q patch.changes)
   ok_composed (Ok patch) h = λ s both. composed_laid s both ∙ sym h.0
   ok_composed (Err e) h = tt
 
-  pub ok_in_turn : (r : Result (List Hunk) PatchRefusal) → IfOk r (λ patch. (patch ≡ laid ps) × IsPatch (laid ps)) → IfOk r (DoesBoth p q)
+  pub ok_in_turn : (r : Result PatchView PatchRefusal) → IfOk r (λ patch. (patch.changes ≡ laid ps) × IsPatch (laid ps)) → IfOk r (λ patch. DoesBoth p q patch.changes)
   ok_in_turn (Ok patch) h = subst (λ (hs : List Hunk). DoesBoth p q hs) (sym h.0) does_both
   ok_in_turn (Err e) h = tt
 
-  pub err_composed : (r : Result (List Hunk) PatchRefusal) → IfErr r (Refuses (laid ps)) → IfErr r (λ refusal. (changes : List Hunk) × IsComposed p q changes × Refuses changes refusal)
+  pub err_composed : (r : Result PatchView PatchRefusal) → IfErr r (Refuses (laid ps)) → IfErr r (λ refusal. (changes : List Hunk) × IsComposed p q changes × Refuses changes refusal)
   err_composed (Ok patch) h = tt
   err_composed (Err e) h = (laid ps, composed_laid, h)
 
-pub ok_within : (r : Result (List Hunk) PatchRefusal) (ps : List Part) → IfOk r (λ patch. (patch ≡ laid ps) × IsPatch (laid ps)) → IfOk r KeepsLimits
+pub ok_within : (r : Result PatchView PatchRefusal) (ps : List Part) → IfOk r (λ patch. (patch.changes ≡ laid ps) × IsPatch (laid ps)) → IfOk r (λ patch. KeepsLimits patch.changes)
 ok_within (Ok patch) ps h = subst (λ (hs : List Hunk). KeepsLimits hs) (sym h.0) (keeps_limits (laid ps) h.1)
 ok_within (Err e) ps h = tt

@@ -1,5 +1,6 @@
 -- Why a patch isn't applied to a text.
-use Rattle.std.specs.Prelude.{ℕ, ◌<◌, ◌^◌, List, length, slice_index_or}
+use Rattle.std.specs.Prelude.{ℕ, ◌<◌, List, length, slice_index_or}
+use Rattle.points.specs.declared.limits.TheConstants.{MAX_UNITS}
 use Rattle.patch.specs.Hunk.{Hunk}
 use Rattle.patch.specs.Fit.{HunkFits, Fits, applied}
 use Rattle.patch_algebra.specs.declared.refusal.ApplyRefusal.{ApplyRefusal}
@@ -12,5 +13,5 @@ IsFirstMisfit p s at = (at < length p) × ((k : ℕ) (d : Hunk) → k < at → H
 -- the cause of a refusal; want of memory has none
 abbrev pub Explains : List Hunk → List ℕ → ApplyRefusal → Type 0
 Explains p s (DoesNotFit at) = IsFirstMisfit p s at
-Explains p s TooLong = Fits p s × (2 ^ 24 < length (applied p s))
+Explains p s TooLong = Fits p s × (MAX_UNITS < length (applied p s))
 Explains p s NoMemory = Unit {0}

@@ -1,9 +1,10 @@
 -- Two patches merged in one pass, with no text: the stretches of the first one's old text that both make in turn.
-use Rattle.std.specs.Prelude.{◌≡◌, ℕ, ◌==◌, ◌||◌, not, true, List, [], ◌∷◌, ◌++◌, length, take, drop, map, nat_le, Bool, if◌then◌else◌, Option, Some, None, unwrap_or}
+use Rattle.std.specs.Prelude.{◌≡◌, ℕ, ◌==◌, ◌||◌, not, true, List, [], ◌∷◌, ◌++◌, length, take, drop, map, nat_le, Bool, if◌then◌else◌, Option, Some, None}
 use Rattle.points.specs.declared.point.Point.{Point}
 use Rattle.points.specs.Point.{origin, point_le, traversal}
 use Rattle.points.specs.Place.{offset_of}
 use Rattle.patch.specs.Hunk.{Hunk}
+use Rattle.patch.specs.Fit.{offset_in}
 use Rattle.patch.specs.Stretches.{Part}
 use Rattle.patch_algebra.specs.declared.middle.Middle.{Middle}
 
@@ -49,9 +50,9 @@ pub record Opening : Type 0 where
 abbrev pub opened : List Part → Point → List Between → Opening
 opened parts place rest = record { parts = parts; place = place; rest = rest }
 
--- the new units of a change before a place in it
-abbrev pub units_before : Point → Between → ℕ
-units_before to m = unwrap_or (offset_of m.new_text (traversal to m.start)) 0
+-- the offset in a change's new text of a place in it
+abbrev pub cut_offset : Point → Between → ℕ
+cut_offset to m = offset_in m.new_text (traversal to m.start)
 
 -- what is left of a change from `start` on: these new units
 abbrev pub left_of : Point → Between → List ℕ → Between
@@ -62,7 +63,7 @@ abbrev pub opening : Point → Point → List Between → Opening
 opening place to [] = opened [] place []
 opening place to (m ∷ ms) = if point_le to m.start then opened [] place (m ∷ ms)
     else (if point_le m.end to then (let r = opening m.end to ms in opened (part_between place m ∷ r.parts) r.place r.rest)
-    else opened (part_to place m.start m.old_text (take (units_before to m) m.new_text) ∷ []) to (left_of to m (drop (units_before to m) m.new_text) ∷ ms))
+    else opened (part_to place m.start m.old_text (take (cut_offset to m) m.new_text) ∷ []) to (left_of to m (drop (cut_offset to m) m.new_text) ∷ ms))
 
 -- the first change, if any, starts at the place `to` or behind it, or reaches past it
 abbrev pub stops_at : Point → List Between → Bool
@@ -75,37 +76,37 @@ pub record Opens (to : Point) (before : List Part) (place : Point) (ms : List Be
   pub place_is : (opening place' to ms').place ≡ (opening place to ms).place
   pub rest_is : (opening place' to ms').rest ≡ (opening place to ms).rest
 
--- what replaced units of the text between cover: the stretches that take out what stands behind them, and the changes that are left
-pub record Covering : Type 0 where
+-- the removal of replaced units of the text between: the stretches that take out what stands behind them, and the changes that are left
+pub record Removal : Type 0 where
   pub parts : List Part
   pub rest : List Between
 
--- such a covering, of its two parts
-abbrev pub covered : List Part → List Between → Covering
-covered parts rest = record { parts = parts; rest = rest }
+-- such a removal, of its two parts
+abbrev pub removal_made : List Part → List Between → Removal
+removal_made parts rest = record { parts = parts; rest = rest }
 
 -- units taken out where nothing is kept before them
 abbrev pub taken_out : List ℕ → Part
 taken_out units = record { kept = origin; old_text = units; new_text = [] }
 
--- the changes that are left behind a covered one, of which these new units are left
+-- the changes that are left behind a change that is taken along, of which these new units are left
 abbrev pub left_behind : Point → Between → List ℕ → List Between → List Between
 left_behind end m units ms = if length units == 0 then ms else left_of end m units ∷ ms
 
 -- one change more, which starts k units behind the start of the units d, or isn't reached
-abbrev pub covering_step : Point → Option ℕ → List ℕ → Between → List Between → (ℕ → Covering) → Covering
-covering_step end None d m ms more = covered (taken_out d ∷ []) (m ∷ ms)
-covering_step end (Some k) d m ms more = if nat_le (length (drop k d)) (length m.new_text)
-    then covered (taken_out (take k d) ∷ taken_out m.old_text ∷ []) (left_behind end m (drop (length (drop k d)) m.new_text) ms)
-    else (let r = more k in covered (taken_out (take k d) ∷ taken_out m.old_text ∷ r.parts) r.rest)
+abbrev pub removal_step : Point → Option ℕ → List ℕ → Between → List Between → (ℕ → Removal) → Removal
+removal_step end None d m ms more = removal_made (taken_out d ∷ []) (m ∷ ms)
+removal_step end (Some k) d m ms more = if nat_le (length (drop k d)) (length m.new_text)
+    then removal_made (taken_out (take k d) ∷ taken_out m.old_text ∷ []) (left_behind end m (drop (length (drop k d)) m.new_text) ms)
+    else (let r = more k in removal_made (taken_out (take k d) ∷ taken_out m.old_text ∷ r.parts) r.rest)
 
--- what the units d cover that start at the place `place` and end at `end`
-abbrev pub covering : Point → Point → List ℕ → List Between → Covering
-covering end place d [] = covered (taken_out d ∷ []) []
-covering end place d (m ∷ ms) = covering_step end (offset_of d (traversal m.start place)) d m ms (λ k. covering end m.end (drop (length m.new_text) (drop k d)) ms)
+-- the removal of the units d that start at the place `place` and end at `end`
+abbrev pub removal : Point → Point → List ℕ → List Between → Removal
+removal end place d [] = removal_made (taken_out d ∷ []) []
+removal end place d (m ∷ ms) = removal_step end (offset_of d (traversal m.start place)) d m ms (λ k. removal end m.end (drop (length m.new_text) (drop k d)) ms)
 
 -- the stretches of both patches, behind a place in the text between: `ms` is left of the first, and the second's changes follow
 abbrev pub merged : Point → List Between → List Hunk → List Part
 merged place ms [] = parts_between place ms
-merged place ms (h ∷ qs) = let o = opening place h.old_start ms in let c = covering h.old_end h.old_start h.old_text o.rest in
+merged place ms (h ∷ qs) = let o = opening place h.old_start ms in let c = removal h.old_end h.old_start h.old_text o.rest in
     o.parts ++ part_to o.place h.old_start [] h.new_text ∷ (c.parts ++ merged h.old_end c.rest qs)

@@ -7,13 +7,12 @@ ghost use Rattle.patch.specs.Stretches.{part_seen, parts_seen, Refuses};
 ghost use Rattle.patch.specs.Splicing.{KeepsLimits};
 ghost use Rattle.patch_algebra.specs.declared.middle.Middle.{Middle};
 ghost use Rattle.patch_algebra.specs.Composing.{CanCompose, IsComposed, DoesBoth};
-ghost use Rattle.patch_algebra.specs.Merging.{between, between_seen, betweens_seen, part_to, parts_between, Opens, stops_at, opening, covered, covering, merged, taken_out, left_of, left_behind, units_before};
+ghost use Rattle.patch_algebra.specs.Merging.{between, between_seen, betweens_seen, part_to, parts_between, Opens, stops_at, opening, removal_made, removal, merged, taken_out, left_of, left_behind, cut_offset};
 
 use crate::middle::{Middle, middles_of};
 use patch::laws::rules_are_kept;
-use patch::place::{at_most, offset_in, way};
 use patch::{ChangeView, Patch, PatchRefusal, Stretch};
-use points::{NoMemory, Point};
+use points::{NoMemory, Point, offset_of, traversal};
 use std::alloc::Global;
 
 /// The patch that does what `first` and then `second` do. Some text must fit the first, and what
@@ -21,11 +20,12 @@ use std::alloc::Global;
 /// result would pass [`MAX_COORD`](points::MAX_COORD), else as `TooMany` where it would have more
 /// than [`MAX_CHANGES`](patch::MAX_CHANGES) changes.
 pub fn compose(alloc: Global, first: &Patch, second: &Patch) -> Result<Patch, PatchRefusal>
-    requires { CanCompose first.now second.now }
-    ensures made { IfOk result (IsComposed first.now second.now) }
-    ensures in_turn { IfOk result (DoesBoth first.now second.now) }
-    ensures within { IfOk result KeepsLimits }
-    ensures err { IfErr result (λ refusal. (changes : List Hunk) × IsComposed first.now second.now changes × Refuses changes refusal) }
+    requires { CanCompose first.now.changes second.now.changes }
+    ensures made { IfOk result (λ patch. IsComposed first.now.changes second.now.changes patch.changes) }
+    ensures in_turn { IfOk result (λ patch. DoesBoth first.now.changes second.now.changes patch.changes) }
+    ensures within { IfOk result (λ patch. KeepsLimits patch.changes) }
+    ensures err { IfErr result (λ refusal. (changes : List Hunk)
+        × IsComposed first.now.changes second.now.changes changes × Refuses changes refusal) }
 {
     rules_are_kept(first);
     rules_are_kept(second);
@@ -42,18 +42,16 @@ fn merged<'a>(
     first: &'a Patch,
     second: &'a Patch,
 ) -> Result<Vec<Stretch<'a>>, NoMemory>
-    ensures { IfOk result (λ stretches. parts_seen stretches.items ≡ merged origin (map between first.now) second.now) }
+    ensures { IfOk result (λ stretches. parts_seen stretches.items
+        ≡ merged origin (map between first.now.changes) second.now.changes) }
 {
     let mut middles = middles_of(alloc, first)?;
     let mut stretches = Vec::new(alloc);
     let mut reached = Reached {
         at: 0,
-        place: Point { row: 0, column: 0 },
+        place: Point::default(),
     };
-    for index in 0..second.count() {
-        let Some(change) = second.change(index) else {
-            unreachable!()
-        };
+    for change in second.changes() {
         reached = replace(&mut stretches, &mut middles, reached, change)?;
     }
     finish(&mut stretches, middles.as_slice(), reached)?;
@@ -77,13 +75,16 @@ fn replace<'a>(
 ) -> Result<Reached, NoMemory>
     requires { reached.at ≤ length middles.old.items }
     ensures within { IfOk result (λ next. next.at ≤ length middles.new.items) }
-    ensures merged { IfOk result (λ next. (qs : List Hunk) → parts_seen stretches.new.items ++ merged next.place (betweens_seen (drop next.at middles.new.items)) qs
-        ≡ parts_seen stretches.old.items ++ merged reached.place (betweens_seen (drop reached.at middles.old.items)) (hunk_seen change.entry ∷ qs)) }
+    ensures merged { IfOk result (λ next. (qs : List Hunk) → parts_seen stretches.new.items
+        ++ merged next.place (betweens_seen (drop next.at middles.new.items)) qs
+        ≡ parts_seen stretches.old.items
+        ++ merged reached.place (betweens_seen (drop reached.at middles.old.items)) (hunk_seen change.entry
+        ∷ qs)) }
 {
     let start = change.old_range.start;
     let reached = open_at(stretches, middles, reached, start)?;
     stretches.push(Stretch {
-        kept: way(start, reached.place),
+        kept: traversal(start, reached.place),
         old_text: &[],
         new_text: change.new_text,
     })?;
@@ -103,12 +104,15 @@ fn open_at<'a>(
 ) -> Result<Reached, NoMemory>
     requires { reached.at ≤ length middles.old.items }
     ensures within { IfOk result (λ next. next.at ≤ length middles.new.items) }
-    ensures parts { IfOk result (λ next. parts_seen stretches.new.items ≡ parts_seen stretches.old.items ++ (opening reached.place to (betweens_seen (drop reached.at middles.old.items))).parts) }
-    ensures place { IfOk result (λ next. next.place ≡ (opening reached.place to (betweens_seen (drop reached.at middles.old.items))).place) }
-    ensures rest { IfOk result (λ next. betweens_seen (drop next.at middles.new.items) ≡ (opening reached.place to (betweens_seen (drop reached.at middles.old.items))).rest) }
+    ensures parts { IfOk result (λ next. parts_seen stretches.new.items ≡ parts_seen stretches.old.items
+        ++ (opening reached.place to (betweens_seen (drop reached.at middles.old.items))).parts) }
+    ensures place { IfOk result (λ next. next.place
+        ≡ (opening reached.place to (betweens_seen (drop reached.at middles.old.items))).place) }
+    ensures rest { IfOk result (λ next. betweens_seen (drop next.at middles.new.items)
+        ≡ (opening reached.place to (betweens_seen (drop reached.at middles.old.items))).rest) }
 {
     let reached = pass(stretches, middles.as_slice(), reached, to)?;
-    if reached.at == middles.len() || at_most(to, middles[reached.at].start) {
+    if reached.at == middles.len() || to <= middles[reached.at].start {
         return Ok(reached);
     }
     cut(stretches, middles, reached, to)
@@ -123,14 +127,15 @@ fn pass<'a>(
 ) -> Result<Reached, NoMemory>
     requires { reached.at ≤ length middles.now }
     ensures within { IfOk result (λ next. next.at ≤ length middles.now) }
-    ensures opens { IfOk result (λ next. Opens to (parts_seen stretches.old.items) reached.place (betweens_seen (drop reached.at middles.now))
+    ensures opens { IfOk result (λ next. Opens to (parts_seen stretches.old.items) reached.place
+        (betweens_seen (drop reached.at middles.now))
         (parts_seen stretches.new.items) next.place (betweens_seen (drop next.at middles.now))) }
     ensures stops { IfOk result (λ next. IsTrue (stops_at to (betweens_seen (drop next.at middles.now)))) }
 {
     let mut reached = reached;
     while reached.at < middles.len() {
         let middle = middles[reached.at];
-        if at_most(to, middle.start) || !at_most(middle.end, to) {
+        if to <= middle.start || to < middle.end {
             break;
         }
         stretches.push(middle.behind(reached.place))?;
@@ -152,15 +157,20 @@ fn cut<'a>(
     requires { reached.at < length middles.old.items }
     ensures at { IfOk result (λ next. next.at ≡ reached.at) }
     ensures place { IfOk result (λ next. next.place ≡ to) }
-    ensures parts { IfOk result (λ next. (d : Middle) → let m = between_seen (slice_index_or middles.old.items reached.at d) in parts_seen stretches.new.items
-        ≡ parts_seen stretches.old.items ++ part_to reached.place m.start m.old_text (take (units_before to m) m.new_text) ∷ []) }
-    ensures rest { IfOk result (λ next. (d : Middle) → let m = between_seen (slice_index_or middles.old.items reached.at d) in
-        (length middles.new.items ≡ length middles.old.items) × (betweens_seen (drop reached.at middles.new.items) ≡ left_of to m (drop (units_before to m) m.new_text) ∷ betweens_seen (drop (reached.at + 1) middles.old.items))) }
+    ensures parts { IfOk result (λ next. (d : Middle) →
+        let m = between_seen (slice_index_or middles.old.items reached.at d) in parts_seen stretches.new.items
+        ≡ parts_seen stretches.old.items
+        ++ part_to reached.place m.start m.old_text (take (cut_offset to m) m.new_text) ∷ []) }
+    ensures rest { IfOk result (λ next. (d : Middle) →
+        let m = between_seen (slice_index_or middles.old.items reached.at d) in
+        (length middles.new.items ≡ length middles.old.items) × (betweens_seen (drop reached.at middles.new.items)
+        ≡ left_of to m (drop (cut_offset to m) m.new_text)
+        ∷ betweens_seen (drop (reached.at + 1) middles.old.items))) }
 {
     let middle = middles[reached.at];
     let (before, behind) = middle.cut_at(to);
     stretches.push(Stretch {
-        kept: way(middle.start, reached.place),
+        kept: traversal(middle.start, reached.place),
         old_text: middle.old_text,
         new_text: before,
     })?;
@@ -182,48 +192,54 @@ fn take_out<'a>(
     requires { at ≤ length middles.old.items }
     ensures within { IfOk result (λ next. next ≤ length middles.new.items) }
     ensures parts { IfOk result (λ next. parts_seen stretches.new.items ≡ parts_seen stretches.old.items
-        ++ (covering change.entry.old_range.end change.entry.old_range.start change.entry.old_text.now (betweens_seen (drop at middles.old.items))).parts) }
+        ++ (removal change.entry.old_range.end change.entry.old_range.start change.entry.old_text.now
+        (betweens_seen (drop at middles.old.items))).parts) }
     ensures rest { IfOk result (λ next. betweens_seen (drop next middles.new.items)
-        ≡ (covering change.entry.old_range.end change.entry.old_range.start change.entry.old_text.now (betweens_seen (drop at middles.old.items))).rest) }
+        ≡ (removal change.entry.old_range.end change.entry.old_range.start change.entry.old_text.now
+        (betweens_seen (drop at middles.old.items))).rest) }
 {
-    let covered = cover(
+    let removed = remove(
         stretches,
         middles.as_slice(),
         at,
         change.old_range.start,
         change.old_text,
     )?;
-    if covered.left.len() == 0 {
-        return Ok(covered.stop);
+    if removed.left.len() == 0 {
+        return Ok(removed.stop);
     }
-    let last = covered.stop - 1;
+    let last = removed.stop - 1;
     let middle = middles[last];
-    middles[last] = middle.left(change.old_range.end, covered.left);
+    middles[last] = middle.left(change.old_range.end, removed.left);
     Ok(last)
 }
 
-// What replaced units of the text between cover: the index of the first change behind them, and
+// What the removal of units of the text between leaves: the index of the first change behind them, and
 // what is left of the new text of the change before it.
 #[derive(Clone, Copy)]
-struct Covered<'a> {
+struct Removed<'a> {
     stop: usize,
     left: &'a [u16],
 }
 
 // Takes out what stands behind the units `deleted`, which start at the place `start`.
-fn cover<'a>(
+fn remove<'a>(
     stretches: &mut Vec<Stretch<'a>>,
     middles: &[Middle<'a>],
     at: usize,
     start: Point,
     deleted: &'a [u16],
-) -> Result<Covered<'a>, NoMemory>
+) -> Result<Removed<'a>, NoMemory>
     requires { at ≤ length middles.now }
-    ensures stop { IfOk result (λ covered. covered.stop ≤ length middles.now) }
-    ensures left { IfOk result (λ covered. 0 < length covered.left.now → 0 < covered.stop) }
-    ensures parts { IfOk result (λ covered. (end : Point) → parts_seen stretches.new.items ≡ parts_seen stretches.old.items ++ (covering end start deleted.entry.now (betweens_seen (drop at middles.now))).parts) }
-    ensures rest { IfOk result (λ covered. (end : Point) (d : Middle) → left_behind end (between_seen (slice_index_or middles.now (covered.stop - 1) d)) covered.left.now (betweens_seen (drop covered.stop middles.now))
-        ≡ (covering end start deleted.entry.now (betweens_seen (drop at middles.now))).rest) }
+    ensures stop { IfOk result (λ removed. removed.stop ≤ length middles.now) }
+    ensures left { IfOk result (λ removed. 0 < length removed.left.now → 0 < removed.stop) }
+    ensures parts { IfOk result (λ removed. (end : Point) → parts_seen stretches.new.items
+        ≡ parts_seen stretches.old.items
+        ++ (removal end start deleted.entry.now (betweens_seen (drop at middles.now))).parts) }
+    ensures rest { IfOk result (λ removed. (end : Point) (d : Middle)
+        → left_behind end (between_seen (slice_index_or middles.now (removed.stop - 1) d)) removed.left.now
+        (betweens_seen (drop removed.stop middles.now))
+        ≡ (removal end start deleted.entry.now (betweens_seen (drop at middles.now))).rest) }
 {
     let mut stop = at;
     let mut place = start;
@@ -236,27 +252,28 @@ fn cover<'a>(
         stop += 1;
         if behind.len() <= middle.new_text.len() {
             let (_, left) = middle.new_text.split_at(behind.len());
-            return Ok(Covered { stop, left });
+            return Ok(Removed { stop, left });
         }
         units = behind.split_at(middle.new_text.len()).1;
         place = middle.end;
     }
     stretches.push(taken_out(units))?;
-    Ok(Covered { stop, left: &[] })
+    Ok(Removed { stop, left: &[] })
 }
 
 // How many of the units, which start at `place`, stand before the change at index `at`. None where
 // they end before it, or there is no such change.
 fn kept_before(middles: &[Middle<'_>], at: usize, place: Point, units: &[u16]) -> Option<usize>
     requires { at ≤ length middles.now }
-    ensures { MatchOption result ((end : Point) → covering end place units.now (betweens_seen (drop at middles.now)) ≡ covered (taken_out units.now ∷ []) (betweens_seen (drop at middles.now)))
+    ensures { MatchOption result ((end : Point) → removal end place units.now (betweens_seen (drop at middles.now))
+        ≡ removal_made (taken_out units.now ∷ []) (betweens_seen (drop at middles.now)))
         (λ kept. (at < length middles.now) × (kept ≤ length units.now)
         × ((d : Middle) → offset_of units.now (traversal (slice_index_or middles.now at d).start place) ≡ Some kept)) }
 {
     if at == middles.len() {
         return None;
     }
-    offset_in(units, way(middles[at].start, place))
+    offset_of(units, traversal(middles[at].start, place))
 }
 
 // Units taken out where nothing is kept before them.
@@ -264,7 +281,7 @@ fn taken_out(units: &[u16]) -> Stretch<'_>
     ensures { part_seen result ≡ taken_out units.now }
 {
     Stretch {
-        kept: Point { row: 0, column: 0 },
+        kept: Point::default(),
         old_text: units,
         new_text: &[],
     }
@@ -277,7 +294,8 @@ fn finish<'a>(
     reached: Reached,
 ) -> Result<(), NoMemory>
     requires { reached.at ≤ length middles.now }
-    ensures { OnOk result (parts_seen stretches.new.items ≡ parts_seen stretches.old.items ++ parts_between reached.place (betweens_seen (drop reached.at middles.now))) }
+    ensures { OnOk result (parts_seen stretches.new.items ≡ parts_seen stretches.old.items
+        ++ parts_between reached.place (betweens_seen (drop reached.at middles.now))) }
 {
     let mut place = reached.place;
     for middle in &middles[reached.at..] {

@@ -1,3 +1,4 @@
+//! Whether a patch fits a text, and the first change that doesn't.
 ghost use Rattle.std.specs.Prelude.{◌≡◌, ◌↔◌, IsTrue, MatchOption};
 ghost use Rattle.patch.specs.Hunk.{hunk_seen};
 ghost use Rattle.patch.specs.Fit.{HunkFits, Fits};
@@ -8,24 +9,18 @@ use patch::{ChangeView, Patch};
 
 /// Whether each change's old text stands at its old range.
 pub fn fits(patch: &Patch, text: &LineText) -> bool
-    ensures { IsTrue result ↔ Fits patch.now text.now }
+    ensures { IsTrue result ↔ Fits patch.now.changes text.now }
 {
     first_misfit(patch, text).is_none()
 }
 
 /// The first change whose old text doesn't stand at its old range.
 pub(crate) fn first_misfit(patch: &Patch, text: &LineText) -> Option<usize>
-    ensures { MatchOption result (Fits patch.now text.now) (IsFirstMisfit patch.now text.now) }
+    ensures { MatchOption result (Fits patch.now.changes text.now) (IsFirstMisfit patch.now.changes text.now) }
 {
-    for at in 0..patch.count() {
-        let Some(change) = patch.change(at) else {
-            unreachable!()
-        };
-        if !change_fits(change, text) {
-            return Some(at);
-        }
-    }
-    None
+    patch
+        .changes()
+        .position(|change| !change_fits(change, text))
 }
 
 // Whether the change's old text stands at its old range.

@@ -8,7 +8,9 @@ use patch::laws::rules_are_kept;
 /// Two patches in turn make the same changes on every text that fits the first and whose result
 /// fits the second.
 pub fn composed_alike(first: &Patch, second: &Patch)
-    ensures { (s t : List ℕ) → FitsBoth first.now second.now s → FitsBoth first.now second.now t → composed first.now second.now s ≡ composed first.now second.now t }
+    ensures { (s t : List ℕ) → FitsBoth first.now.changes second.now.changes s
+        → FitsBoth first.now.changes second.now.changes t → composed first.now.changes second.now.changes s
+        ≡ composed first.now.changes second.now.changes t }
 {
     rules_are_kept(first);
     rules_are_kept(second);

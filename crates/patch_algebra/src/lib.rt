@@ -8,8 +8,6 @@ pub mod laws;
 mod middle;
 mod new_text;
 mod refusal;
-#[cfg(test)]
-mod tests;
 
 pub use composition::compose;
 pub use fit::fits;

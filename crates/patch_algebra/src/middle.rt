@@ -2,11 +2,10 @@
 ghost use Rattle.std.specs.Prelude.{◌≡◌, map, take, drop, IfOk};
 ghost use Rattle.patch.specs.Hunk.{hunk_seen};
 ghost use Rattle.patch.specs.Stretches.{part_seen};
-ghost use Rattle.patch_algebra.specs.Merging.{between, between_seen, betweens_seen, part_between, left_of, units_before};
+ghost use Rattle.patch_algebra.specs.Merging.{between, between_seen, betweens_seen, part_between, left_of, cut_offset};
 
-use patch::place::{offset_in, way};
 use patch::{ChangeView, Patch, Stretch};
-use points::{NoMemory, Point};
+use points::{NoMemory, Point, offset_of, traversal};
 use std::alloc::Global;
 
 /// A change, or what is left of one: where its new text stands in the text between two patches,
@@ -20,6 +19,7 @@ pub(crate) struct Middle<'a> {
 }
 
 impl<'a> Middle<'a> {
+    // A change as such.
     fn of(change: ChangeView<'a>) -> Self
         ensures { between_seen result ≡ between (hunk_seen change.entry) }
     {
@@ -36,7 +36,7 @@ impl<'a> Middle<'a> {
         ensures { part_seen result ≡ part_between place (between_seen self.now) }
     {
         Stretch {
-            kept: way(self.start, place),
+            kept: traversal(self.start, place),
             old_text: self.old_text,
             new_text: self.new_text,
         }
@@ -56,23 +56,20 @@ impl<'a> Middle<'a> {
 
     /// The new units before a place in the change, and those behind it.
     pub fn cut_at(&self, to: Point) -> (&'a [u16], &'a [u16])
-        ensures before { result.0.now ≡ take (units_before to (between_seen self.now)) self.now.new_text.now }
-        ensures behind { result.1.now ≡ drop (units_before to (between_seen self.now)) self.now.new_text.now }
+        ensures before { result.0.now ≡ take (cut_offset to (between_seen self.now)) self.now.new_text.now }
+        ensures behind { result.1.now ≡ drop (cut_offset to (between_seen self.now)) self.now.new_text.now }
     {
-        let at = offset_in(self.new_text, way(to, self.start)).unwrap_or(0);
+        let at = offset_of(self.new_text, traversal(to, self.start)).unwrap_or(0);
         self.new_text.split_at(at)
     }
 }
 
 /// The changes of a patch.
 pub(crate) fn middles_of(alloc: Global, patch: &Patch) -> Result<Vec<Middle<'_>>, NoMemory>
-    ensures { IfOk result (λ middles. betweens_seen middles.items ≡ map between patch.now) }
+    ensures { IfOk result (λ middles. betweens_seen middles.items ≡ map between patch.now.changes) }
 {
     let mut middles = Vec::with_capacity(alloc, patch.count())?;
-    for at in 0..patch.count() {
-        let Some(change) = patch.change(at) else {
-            unreachable!()
-        };
+    for change in patch.changes() {
         middles.push(Middle::of(change))?;
     }
     Ok(middles)

@@ -1,21 +1,21 @@
 //! The new text, put together from what stays of the old one and the new texts of the changes.
-ghost use Rattle.std.specs.Prelude.{◌≡◌, ◌≤◌, ◌<◌, ◌↔◌, IsTrue, ◌^◌, length, slice_range, IfOk, IfErr, OnOk};
+ghost use Rattle.std.specs.Prelude.{◌≡◌, ◌≤◌, ◌<◌, ◌↔◌, IsTrue, length, slice_range, IfOk, IfErr, OnOk};
 ghost use Rattle.patch.specs.Fit.{Fits, applied, offset_in};
 ghost use Rattle.patch_algebra.specs.Applying.{Explains};
 
 use crate::fit::first_misfit;
 use crate::refusal::ApplyRefusal;
-use line_text::{LineText, MAX_UNITS};
+use line_text::LineText;
 use patch::Patch;
-use points::{NoMemory, Point, Units};
+use points::{MAX_UNITS, NoMemory, Point, Units};
 use std::alloc::Global;
 
 /// The text with the old ranges of all changes replaced at once by their new texts.
 pub fn apply(alloc: Global, patch: &Patch, text: &LineText) -> Result<LineText, ApplyRefusal>
-    ensures fits { OnOk result (Fits patch.now text.now) }
-    ensures made { IfOk result (λ made. made ≡ applied patch.now text.now) }
-    ensures short { OnOk result (length (applied patch.now text.now) ≤ 2 ^ 24) }
-    ensures err { IfErr result (Explains patch.now text.now) }
+    ensures fits { OnOk result (Fits patch.now.changes text.now) }
+    ensures made { IfOk result (λ made. made ≡ applied patch.now.changes text.now) }
+    ensures short { OnOk result (length (applied patch.now.changes text.now) ≤ MAX_UNITS) }
+    ensures err { IfErr result (Explains patch.now.changes text.now) }
 {
     if let Some(change) = first_misfit(patch, text) {
         return Err(ApplyRefusal::DoesNotFit { change });
@@ -29,14 +29,11 @@ pub fn apply(alloc: Global, patch: &Patch, text: &LineText) -> Result<LineText, 
 
 // Whether the new text has more units than a text may have.
 fn is_too_long(patch: &Patch, text: &LineText) -> bool
-    ensures { IsTrue result ↔ (2 ^ 24 < length (applied patch.now text.now)) }
+    ensures { IsTrue result ↔ (MAX_UNITS < length (applied patch.now.changes text.now)) }
 {
     let mut len = 0;
     let mut read = 0;
-    for at in 0..patch.count() {
-        let Some(change) = patch.change(at) else {
-            unreachable!()
-        };
+    for change in patch.changes() {
         let kept = stretch(text, read, offset_in(text, change.old_range.start)).len();
         if kept > MAX_UNITS - len {
             return true;
@@ -54,14 +51,11 @@ fn is_too_long(patch: &Patch, text: &LineText) -> bool
 
 // The units of the new text.
 fn new_units(alloc: Global, patch: &Patch, text: &LineText) -> Result<Units, NoMemory>
-    ensures { IfOk result (λ units. units ≡ applied patch.now text.now) }
+    ensures { IfOk result (λ units. units ≡ applied patch.now.changes text.now) }
 {
     let mut units = Units::new(alloc);
     let mut read = 0;
-    for at in 0..patch.count() {
-        let Some(change) = patch.change(at) else {
-            unreachable!()
-        };
+    for change in patch.changes() {
         units.append(stretch(text, read, offset_in(text, change.old_range.start)))?;
         units.append(change.new_text)?;
         read = offset_in(text, change.old_range.end);

@@ -1,3 +1,4 @@
+//! Why a patch isn't applied to a text.
 ghost use Rattle.std.specs.Prelude.{◌≡◌};
 ghost use Rattle.patch_algebra.specs.declared.refusal.ApplyRefusal.TheVariants.{NoMemory as no_memory};
 

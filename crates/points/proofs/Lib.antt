@@ -7,7 +7,11 @@ pub mod TextLemmas
 pub mod WellFormedLemmas
 pub mod EndingLemmas
 pub mod MendingLemmas
-pub mod DistanceLemmas
+pub mod ExtentParts
+pub mod FindLemmas
+pub mod CapLemmas
 mod MarkRows
+mod MoveTable
 pub mod MarkLemmas
 pub mod MarkListLemmas
+pub mod MarkTextLemmas

@@ -1,5 +1,5 @@
 -- Mended texts: they are as long, well-formed, and as they were where they were well-formed before.
-use Rattle.std.proofs.Common.{◌≡◌, ℕ, suc, ◌+◌, ◌-◌, ◌/◌, ◌%◌, ◌<◌, ◌≤◌, List, [], ◌∷◌, ◌++◌, length, map, get_or, Option, Some, unwrap_or, is_some, Bool, true, false, not, ◌&&◌, ◌||◌, refl, sym, ap, ◌∙◌, inl, inr, arith, length-append}
+use Rattle.std.proofs.Common.{◌≡◌, ℕ, zero, suc, ◌+◌, ◌-◌, ◌/◌, ◌%◌, ◌<◌, ◌≤◌, List, [], ◌∷◌, ◌++◌, length, map, get_or, Option, Some, unwrap_or, is_some, cond, Bool, true, false, not, ◌&&◌, ◌||◌, refl, sym, ap, ◌∙◌, inl, inr, arith, length-append}
 use Rattle.std.specs.List.{list_any}
 use Rattle.std.specs.Char.Escape.{encode_utf16}
 use Rattle.std.specs.Char.Utf16.{is_high_surrogate, is_low_surrogate, utf16_chars, utf16_lossy_chars, has_unpaired_surrogate, lone_unit_char, surrogate_pair_char}
@@ -7,7 +7,7 @@ use Rattle.std.specs.Str.{all_scalars}
 use Rattle.std.proofs.lemmas.Str.{utf16_chars-nil, utf16_chars_lone, utf16_chars_pair, chars-encodes}
 use Rattle.std.proofs.lemmas.Bool.{cases_Bool, cases_lt, and_from, and_parts}
 use Rattle.std.proofs.lemmas.Bool.Decides.{nat_tests}
-use Rattle.points.specs.Text.{utf16, utf16_of, text_of, mended, IsWellFormed, is_well_formed}
+use Rattle.points.specs.Text.{utf16, utf16_of, text_of, mended, mended_unit, IsWellFormed, is_well_formed}
 use Rattle.points.proofs.WellFormedLemmas.{encode_one, encode_two, scalar_fits, scalar_parts}
 
 -- a scalar value is read back from its units
@@ -120,3 +120,58 @@ well_formed-mended t small = (utf16_lossy_chars t, (mended_is t small).scalars, 
 -- the encoding of a text that was read from units is their mending
 pub utf16_of-text_of : (t : List ℕ) → ((k : ℕ) → get_or t k 0 < 65536) → utf16_of (text_of t) ≡ mended t
 utf16_of-text_of t small = ap utf16 (chars-encodes (utf16_lossy_chars t) (mended_is t small).scalars)
+
+-- a unit between two others, mended
+abbrev unit_between : ℕ → ℕ → ℕ → ℕ
+unit_between before u after = cond ((is_high_surrogate u && not (is_low_surrogate after)) || (is_low_surrogate u && not (is_high_surrogate before))) 0xFFFD u
+
+-- a unit in front of a text, and a pair, are mended by themselves
+lone_encoded : (u : ℕ) (rest : List ℕ) → u < 65536 → ((is_high_surrogate u && is_low_surrogate (get_or rest 0 0)) ≡ false) → encode_utf16 (unwrap_or (lone_unit_char u) 0xFFFD) ≡ unit_between u u (get_or rest 0 0) ∷ []
+lone_encoded u rest small apart = grind (arith, nat_tests)
+
+mended_lone : (u : ℕ) (rest : List ℕ) → u < 65536 → ((is_high_surrogate u && is_low_surrogate (get_or rest 0 0)) ≡ false) → mended (u ∷ rest) ≡ unit_between u u (get_or rest 0 0) ∷ mended rest
+mended_lone u rest small apart = ap (λ (os : List (Option ℕ)). utf16 (map (λ o. unwrap_or o 0xFFFD) os)) (spelled_lone u rest small apart).spelled ∙ ap (λ (xs : List ℕ). xs ++ mended rest) (lone_encoded u rest small apart)
+
+mended_pair : (u v : ℕ) (rest : List ℕ) → (is_high_surrogate u && is_low_surrogate v) ≡ true → mended (u ∷ v ∷ rest) ≡ u ∷ v ∷ mended rest
+mended_pair u v rest pair = ap (λ (os : List (Option ℕ)). utf16 (map (λ o. unwrap_or o 0xFFFD) os)) (spelled_pair u v rest pair).spelled ∙ ap (λ (xs : List ℕ). xs ++ mended rest) ((spelled_pair u v rest pair).kept refl)
+
+-- behind a unit that is no partner of the next, a text is mended as by itself
+first_alone : (u v w : ℕ) → (is_high_surrogate u && is_low_surrogate v) ≡ false → unit_between v v w ≡ unit_between u v w
+first_alone u v w apart = grind (arith, nat_tests)
+
+behind_later : (u : ℕ) (rest : List ℕ) (i : ℕ) → mended_unit rest (suc i) ≡ mended_unit (u ∷ rest) (suc (suc i))
+behind_later u rest i = let before : suc (suc i - 1) ≡ suc (suc i) - 1 = omega arith in let after : suc (suc i + 1) ≡ suc (suc i) + 1 = omega arith in
+    ap (λ (k : ℕ). unit_between (get_or (u ∷ rest) k 0) (get_or rest (suc i) 0) (get_or rest (suc i + 1) 0)) before
+    ∙ ap (λ (k : ℕ). unit_between (get_or (u ∷ rest) (suc (suc i) - 1) 0) (get_or rest (suc i) 0) (get_or (u ∷ rest) k 0)) after
+
+behind_unit : (u : ℕ) (rest : List ℕ) (i : ℕ) → ((is_high_surrogate u && is_low_surrogate (get_or rest 0 0)) ≡ false) → mended_unit rest i ≡ mended_unit (u ∷ rest) (suc i)
+behind_unit u rest zero apart = first_alone u (get_or rest 0 0) (get_or rest 1 0) apart
+behind_unit u rest (suc i) apart = behind_later u rest i
+
+-- the two units of a pair stay
+pair_stays : (u v w : ℕ) → (is_high_surrogate u && is_low_surrogate v) ≡ true → (u ≡ unit_between u u v) × (v ≡ unit_between u v w) × ((is_high_surrogate v) ≡ false)
+pair_stays u v w pair = (grind (arith, nat_tests), grind (arith, nat_tests), grind (arith, nat_tests))
+
+no_pair : (v w : ℕ) → is_high_surrogate v ≡ false → (is_high_surrogate v && is_low_surrogate w) ≡ false
+no_pair v w low = ap (λ (b : Bool). b && is_low_surrogate w) low
+
+-- mending works unit by unit
+pub mended_units : (t : List ℕ) → ((k : ℕ) → get_or t k 0 < 65536) → (i : ℕ) → i < length t → get_or (mended t) i 0 ≡ mended_unit t i
+mended_units [] small i within = absurd (omega arith)
+mended_units (u ∷ []) small zero within = ap (λ (xs : List ℕ). get_or xs 0 0) (mended_lone u [] (small 0) (grind (arith, nat_tests)))
+mended_units (u ∷ []) small (suc i) within = absurd (omega arith)
+mended_units (u ∷ v ∷ us) small i within = elim (cases_Bool (is_high_surrogate u && is_low_surrogate v)) [
+  | inl pair ↦ ap (λ (xs : List ℕ). get_or xs i 0) (mended_pair u v us pair) ∙ in_pair pair i within (mended_units us (λ k. small (suc (suc k))))
+  | inr lone ↦ ap (λ (xs : List ℕ). get_or xs i 0) (mended_lone u (v ∷ us) (small 0) lone) ∙ behind_lone lone i within (mended_units (v ∷ us) (λ k. small (suc k)))
+]
+  where
+    in_pair : (is_high_surrogate u && is_low_surrogate v) ≡ true → (i : ℕ) → i < length (u ∷ v ∷ us) → ((k : ℕ) → k < length us → get_or (mended us) k 0 ≡ mended_unit us k)
+        → get_or (u ∷ v ∷ mended us) i 0 ≡ mended_unit (u ∷ v ∷ us) i
+    in_pair pair zero within rest = (pair_stays u v 0 pair).0
+    in_pair pair (suc zero) within rest = (pair_stays u v (get_or us 0 0) pair).1
+    in_pair pair (suc (suc k)) within rest = rest k (omega arith) ∙ (behind_unit v us k (no_pair v (get_or us 0 0) (pair_stays u v 0 pair).2) ∙ behind_later u (v ∷ us) k)
+
+    behind_lone : (is_high_surrogate u && is_low_surrogate v) ≡ false → (i : ℕ) → i < length (u ∷ v ∷ us) → ((k : ℕ) → k < length (v ∷ us) → get_or (mended (v ∷ us)) k 0 ≡ mended_unit (v ∷ us) k)
+        → get_or (unit_between u u v ∷ mended (v ∷ us)) i 0 ≡ mended_unit (u ∷ v ∷ us) i
+    behind_lone lone zero within rest = refl
+    behind_lone lone (suc k) within rest = rest k (omega arith) ∙ behind_unit u (v ∷ us) k lone

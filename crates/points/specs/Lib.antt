@@ -1,5 +1,9 @@
 pub mod Point
 pub mod Text
 pub mod Place
+pub mod Distance
 pub mod Marks
 pub mod MarkList
+pub mod MarkText
+pub mod MarkRows
+pub mod Literal

@@ -7,10 +7,7 @@ use Rattle.points.specs.declared.mark.Mark.{Mark}
 use Rattle.points.specs.declared.mark.Splice.{Splice}
 use Rattle.points.specs.Marks.{moved, touches, is_inside, overlaps, surrounds}
 use Rattle.points.specs.declared.mark.HitCounts.{HitCounts}
-
--- the most marks that a list may have
-abbrev pub MAX_MARKS : ℕ
-MAX_MARKS = 1000000
+use Rattle.points.specs.declared.hits.Hits.{Hits}
 
 -- the ids of marks, in their order
 abbrev pub ids_of : List Mark → List ℕ
@@ -32,6 +29,10 @@ ids_where test ms = ids_of (filter test ms)
 -- how many marks the splice hits, in each of the four senses
 abbrev pub hit_counts : Splice → List Mark → HitCounts
 hit_counts c ms = record { touch = length (ids_where (touches c) ms); inside = length (ids_where (is_inside c) ms); overlap = length (ids_where (overlaps c) ms); surround = length (ids_where (surrounds c) ms) }
+
+-- the ids of the marks that the splice hits, in each of the four senses
+abbrev pub hits_of : Splice → List Mark → Hits
+hits_of c ms = record { touch = ids_where (touches c) ms; inside = ids_where (is_inside c) ms; overlap = ids_where (overlaps c) ms; surround = ids_where (surrounds c) ms }
 
 -- the mark with this id, where there is one
 abbrev pub mark_with : ℕ → List Mark → Option Mark

@@ -1,5 +1,5 @@
 -- Marks: ranges with an id that stay right while the text changes, which of them a change hits, and the finds.
-use Rattle.std.specs.Prelude.{◌&&◌, ◌||◌, Bool, true, false, not, nat_lt, if◌then◌else◌}
+use Rattle.std.specs.Prelude.{◌≡◌, IsTrue, ◌&&◌, ◌||◌, Bool, true, false, not, nat_lt, if◌then◌else◌}
 use Rattle.points.specs.declared.point.Point.{Point}
 use Rattle.points.specs.Point.{point_le, point_lt, traverse, traversal}
 use Rattle.points.specs.Place.{same_point}
@@ -32,6 +32,22 @@ moved_boundary c m is_start p = if point_lt p c.start then p
     else (if not (is_empty_mark m) && is_start then c.new_end
     else (if not (is_empty_mark m) then p
     else c.new_end)))))))
+
+-- the table of movement, a row a line. The splice replaces the text from its start up to its old end by text that ends at
+-- its new end; from `inclusive_start` on it only inserts
+pub record MovesByTable (c : Splice) (m : Mark) : Type 0 where
+  pub before : (is_start : Bool) (p : Point) → IsTrue (point_lt p c.start) → moved_boundary c m is_start p ≡ p
+  pub behind : (is_start : Bool) (p : Point) → IsTrue (point_le c.start c.old_end) → IsTrue (point_lt c.old_end p)
+      → moved_boundary c m is_start p ≡ traverse c.new_end (traversal p c.old_end)
+  pub at_start : (is_start : Bool) → IsTrue (point_lt c.start c.old_end) → moved_boundary c m is_start c.start ≡ c.start
+  pub within : (is_start : Bool) (p : Point) → IsTrue (point_lt c.start p) → IsTrue (point_le p c.old_end)
+      → moved_boundary c m is_start p ≡ c.new_end
+  pub inclusive_start : c.start ≡ c.old_end → m.exclusive ≡ false → moved_boundary c m true c.start ≡ c.start
+  pub inclusive_end : c.start ≡ c.old_end → m.exclusive ≡ false → moved_boundary c m false c.start ≡ c.new_end
+  pub exclusive_start : c.start ≡ c.old_end → m.exclusive ≡ true → ¬ (m.start ≡ m.end) → moved_boundary c m true c.start ≡ c.new_end
+  pub exclusive_end : c.start ≡ c.old_end → m.exclusive ≡ true → ¬ (m.start ≡ m.end) → moved_boundary c m false c.start ≡ c.start
+  pub exclusive_empty : (is_start : Bool) → c.start ≡ c.old_end → m.exclusive ≡ true → m.start ≡ m.end
+      → moved_boundary c m is_start c.start ≡ c.new_end
 
 -- the mark with both its boundaries moved
 abbrev pub moved : Splice → Mark → Mark

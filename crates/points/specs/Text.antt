@@ -1,8 +1,8 @@
 -- Texts: lists of UTF-16 units, which of them are well-formed, and how the others are mended.
-use Rattle.std.specs.Prelude.{◌≡◌, ℕ, ◌==◌, List, Bool, true, not, ◌++◌, take, drop}
+use Rattle.std.specs.Prelude.{◌≡◌, ℕ, ◌+◌, ◌-◌, ◌==◌, ◌&&◌, ◌||◌, List, Bool, true, not, if◌then◌else◌, ◌++◌, take, drop, slice_index}
 use Rattle.std.specs.List.{flat_map}
 use Rattle.std.specs.Char.Escape.{encode_utf16}
-use Rattle.std.specs.Char.Utf16.{utf16_lossy_chars, has_unpaired_surrogate}
+use Rattle.std.specs.Char.Utf16.{is_high_surrogate, is_low_surrogate, utf16_lossy_chars, has_unpaired_surrogate}
 use Rattle.std.specs.Str.{chars, all_scalars}
 use Rattle.std.specs.Prelude.{encode_utf8_all}
 
@@ -36,6 +36,16 @@ is_well_formed t = not (has_unpaired_surrogate t)
 -- the text with U+FFFD in place of each surrogate that lacks its partner
 abbrev pub mended : List ℕ → List ℕ
 mended t = utf16 (utf16_lossy_chars t)
+
+-- the unit at offset i is a surrogate that lacks its partner: a high one with no low one behind it, or a low one with no
+-- high one before it
+abbrev pub is_unpaired : List ℕ → ℕ → Bool
+is_unpaired t i = (is_high_surrogate (slice_index t i) && not (is_low_surrogate (slice_index t (i + 1))))
+    || (is_low_surrogate (slice_index t i) && not (is_high_surrogate (slice_index t (i - 1))))
+
+-- the unit at offset i of the mended text
+abbrev pub mended_unit : List ℕ → ℕ → ℕ
+mended_unit t i = if is_unpaired t i then 0xFFFD else slice_index t i
 
 -- the bytes in UTF-8 of the mended text
 abbrev pub text_of : List ℕ → List ℕ

@@ -1,72 +1,140 @@
-ghost use Rattle.std.specs.Prelude.{◌≡◌, ◌+◌, ◌≤◌, ◌^◌, [], ◌∷◌, IsTrue, length};
-ghost use Rattle.points.specs.Point.{IsWithin, point_le, traverse, traversal};
-ghost use Rattle.points.specs.Place.{extent};
+//! Distances in a text, in rows and columns of 64 bits: no text is too long for its distance, and
+//! two points added up don't pass its end. Where a distance is asked for as a point, it is refused
+//! past the greatest coordinate, or cut down to the farthest point that 32 bits can name.
+ghost use Rattle.std.specs.Prelude.{◌≡◌, ◌+◌, ◌-◌, ◌<◌, ◌^◌, ◌↔◌, [], ◌∷◌, false};
+ghost use Rattle.points.specs.Point.{IsWithin, point_le, traverse};
+ghost use Rattle.points.specs.Place.{extent, same_point};
+ghost use Rattle.points.specs.Distance.{point_of, is_far, near, capped};
 
+use crate::limits::MAX_COORD;
 use crate::point::Point;
 
-/// The point that lies the extent `b` behind the point `a`. Rows add up; the column counts on where
-/// the extent stays on a row, and starts afresh where it goes to another.
-pub fn traverse(a: Point, b: Point) -> Point
-    requires { IsWithin (2 ^ 30) (traverse a b) }
-    ensures { result ≡ traverse a b }
-{
-    if b.row == 0 {
-        Point {
-            row: a.row,
-            column: a.column + b.column,
-        }
-    } else {
-        Point {
-            row: a.row + b.row,
-            column: b.column,
-        }
-    }
+/// How far one place of a text lies behind another: the line feeds between them, and the units
+/// behind the last of these.
+#[derive(Clone, Copy, Debug, Default, PartialEq, Eq)]
+pub struct Distance {
+    pub rows: u64,
+    pub columns: u64,
 }
 
-/// The extent that leads from the point `b` to the point `a`, which isn't before it.
-pub fn traversal(a: Point, b: Point) -> Point
-    requires { IsTrue (point_le b a) }
-    ensures { result ≡ traversal a b }
-{
-    if a.row == b.row {
-        Point {
-            row: 0,
-            column: a.column - b.column,
+impl Distance {
+    /// From the start of a text to its end.
+    pub fn of_text(units: &[u16]) -> Self
+        ensures { point_of result ≡ extent units.now }
+    {
+        let mut reached = Distance::default();
+        for unit in units {
+            reached = reached.over(*unit);
         }
-    } else {
-        Point {
-            row: a.row - b.row,
-            column: a.column,
+        reached
+    }
+
+    /// From the start of a text to the point, or an extent as a distance.
+    pub fn of_point(point: Point) -> Self
+        ensures { point_of result ≡ point }
+    {
+        Distance {
+            rows: u64::from(point.row),
+            columns: u64::from(point.column),
         }
     }
-}
 
-/// The extent of a text: its line feeds, and its units behind the last of them.
-pub fn extent_of(units: &[u16]) -> Point
-    requires { length units.now ≤ 2 ^ 30 }
-    ensures { result ≡ extent units.now }
-{
-    let mut end = Point::default();
-    for unit in units {
-        end = behind(end, *unit);
+    /// From the start of a text to what lies the extent `reach` behind the point `start`.
+    pub fn behind(start: Point, reach: Point) -> Self
+        ensures { point_of result ≡ traverse start reach }
+    {
+        Distance::of_point(start).then(Distance::of_point(reach))
     }
-    end
-}
 
-// The end of a text that ends at `end`, with one unit more.
-fn behind(end: Point, unit: u16) -> Point
-    requires { IsWithin (2 ^ 30) end }
-    ensures { result ≡ traverse end (extent (unit ∷ [])) }
-{
-    if unit == 10 {
-        Point {
-            row: end.row + 1,
-            column: 0,
+    /// This distance and `next` behind it.
+    pub fn then(self, next: Distance) -> Self
+        requires rows { self.rows + next.rows < 2 ^ 64 }
+        requires columns { self.columns + next.columns < 2 ^ 64 }
+        ensures { point_of result ≡ traverse (point_of self) (point_of next) }
+    {
+        if next.rows == 0 {
+            Distance {
+                rows: self.rows,
+                columns: self.columns + next.columns,
+            }
+        } else {
+            Distance {
+                rows: self.rows + next.rows,
+                columns: next.columns,
+            }
         }
-    } else {
+    }
+
+    /// This distance and one unit more.
+    pub fn over(self, unit: u16) -> Self
+        requires rows { self.rows + 1 < 2 ^ 64 }
+        requires columns { self.columns + 1 < 2 ^ 64 }
+        ensures { point_of result ≡ traverse (point_of self) (extent (unit ∷ [])) }
+    {
+        if unit == 10 {
+            Distance {
+                rows: self.rows + 1,
+                columns: 0,
+            }
+        } else {
+            Distance {
+                rows: self.rows,
+                columns: self.columns + 1,
+            }
+        }
+    }
+
+    /// Whether it leads from the start of a text to this point.
+    pub fn is_at(self, point: Point) -> bool
+        ensures { result ≡ same_point (point_of self) point }
+    {
+        self.rows == u64::from(point.row) && self.columns == u64::from(point.column)
+    }
+
+    /// Whether it leads from the start of a text to `limit` or before it.
+    pub fn is_within(self, limit: Point) -> bool
+        ensures { result ≡ point_le (point_of self) limit }
+    {
+        self.rows < u64::from(limit.row)
+            || (self.rows == u64::from(limit.row) && self.columns <= u64::from(limit.column))
+    }
+
+    /// Whether a coordinate of where it leads to passes [`MAX_COORD`].
+    pub fn is_far(self) -> bool
+        ensures far { result ≡ is_far (point_of self) }
+        ensures near { (result ≡ false) ↔ IsWithin MAX_COORD (point_of self) }
+    {
+        self.rows > u64::from(MAX_COORD) || self.columns > u64::from(MAX_COORD)
+    }
+
+    /// The point that it leads to, where no coordinate passes [`MAX_COORD`].
+    pub fn point(self) -> Option<Point>
+        ensures { result ≡ near (point_of self) }
+    {
+        if self.is_far() {
+            return None;
+        }
+        Some(Point {
+            row: self.rows as u32,
+            column: self.columns as u32,
+        })
+    }
+
+    /// The point that it leads to, or the farthest one that a [`Point`] can name on its row, or at
+    /// all where it can't name the row.
+    pub fn capped(self) -> Point
+        ensures { result ≡ capped (point_of self) }
+    {
+        let last = u64::from(u32::MAX);
+        if self.rows > last {
+            return Point {
+                row: u32::MAX,
+                column: u32::MAX,
+            };
+        }
         Point {
-            row: end.row,
-            column: end.column + 1,
+            row: self.rows as u32,
+            column: self.columns.min(last) as u32,
         }
     }
 }

@@ -1,3 +1,5 @@
+//! What contracts on marks speak of: a mark, a splice of the text below it, how many marks a splice
+//! hits, and the order of marks.
 use crate::point::Point;
 
 /// A range of a text with an id, which stays right while the text changes. Text that is inserted at

@@ -1,3 +1,4 @@
+//! The one refusal that any call that allocates may answer.
 ghost use Rattle.std.specs.Prelude.{◌≡◌};
 
 use std::alloc::{AllocError, AllocFailed};

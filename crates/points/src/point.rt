@@ -1,5 +1,9 @@
-/// The greatest row or column of a point that these crates make: 2^30.
-pub const MAX_COORD: u32 = 1 << 30;
+//! A place in a text, in rows and columns.
+ghost use Rattle.std.specs.Prelude.{◌≡◌, ◌↔◌, false};
+ghost use Rattle.points.specs.Point.{IsWithin};
+ghost use Rattle.points.specs.Distance.{is_far};
+
+use crate::limits::MAX_COORD;
 
 /// A place in a text: the rows (line feeds) before it, and the UTF-16 units since its row began.
 /// Points are ordered by row, then by column.
@@ -7,4 +11,14 @@ pub const MAX_COORD: u32 = 1 << 30;
 pub struct Point {
     pub row: u32,
     pub column: u32,
+}
+
+impl Point {
+    /// Whether a coordinate passes [`MAX_COORD`].
+    pub fn is_far(self) -> bool
+        ensures far { result ≡ is_far self }
+        ensures near { (result ≡ false) ↔ IsWithin MAX_COORD self }
+    {
+        self.row > MAX_COORD || self.column > MAX_COORD
+    }
 }

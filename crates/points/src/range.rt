@@ -1,3 +1,4 @@
+//! Stretches of a text, from a point up to another.
 ghost use Rattle.std.specs.Prelude.{◌≡◌, IsTrue};
 ghost use Rattle.points.specs.Point.{point_le};
 

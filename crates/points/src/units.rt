@@ -1,3 +1,6 @@
+//! Lists of UTF-16 units, well-formed or not: read from text, put together, and given back as text.
+//!
+//! Surrogates that lack their partner are kept in the list; the text has U+FFFD in their place.
 ghost use Rattle.std.specs.Prelude.{◌≡◌, ℕ, List, [], ◌++◌, length, IfOk, OnOk, OnErr, string_bytes};
 ghost use Rattle.std.specs.Char.Escape.{encode_utf16};
 ghost use Rattle.points.specs.Text.{utf16_of, text_of};

@@ -1,8 +1,8 @@
 use Rattle.std.proofs.Common.{◌≡◌, ◌||◌, ◌+◌, List, Bool, false, refl, drop, map, ◌∙◌, sym, ap, subst, arith}
 use Rattle.std.proofs.lemmas.List.{drop-map}
 use Rattle.points.specs.Point.{traverse, traversal}
+use Rattle.points.specs.Distance.{is_far}
 use Rattle.patch.specs.Hunk.{Hunk, hunk_of, hunks_of}
-use Rattle.patch.specs.ChangeList.{is_far}
 use Rattle.patch.specs.Stretches.{any_far}
 use Rattle.patch.specs.Spliced.{moved_hunk}
 use Rattle.patch.specs.declared.change.Change.{Change}

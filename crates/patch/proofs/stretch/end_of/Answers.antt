@@ -2,8 +2,8 @@ use Rattle.std.proofs.Common.{◌≡◌, ◌∙◌, ℕ, List, ap, sym, subst, t
 use Rattle.points.specs.declared.point.Point.{Point}
 use Rattle.points.specs.Point.{point_le}
 use Rattle.points.specs.Place.{extent}
-use Rattle.patch.specs.Stretches.{traverse_capped, capped}
-use Rattle.patch.proofs.StretchLemmas.{capped_over, point_le-capped}
+use Rattle.points.proofs.CapLemmas.{capped_over, point_le-capped}
+use Rattle.points.specs.Distance.{capped, traverse_capped}
 use Rattle.patch.proofs.stretch.end_of.Goals as goal
 
 end_is : (c : goal.After-traverse_capped) → c.traverse_capped.result ≡ traverse_capped c.args.start (extent c.args.text.now)

@@ -1,7 +1,10 @@
-use Rattle.std.proofs.Common.{◌∙◌, sym, ap, option_map, arith}
 use Rattle.patch.specs.Hunk.{hunk_seen}
-use Rattle.patch_algebra.proofs.MergeSteps.{got_more}
+use Rattle.patch_algebra.proofs.MergeSteps.{middle_more, middle_last}
 use Rattle.patch_algebra.proofs.middle.middles_of.Goals as goal
 
-pub loop-at-preserved : goal.loop-at-preserved
-loop-at-preserved c = got_more c.args.patch.now c.loop-at.at (hunk_seen c.in-Some.change) c.loop-at.middles.items c.push.new.self.items c.of.result (omega arith) (ap (option_map hunk_seen) (sym c.in-Some.is) ∙ c.change.ensures) c.loop-at.invariant c.of.ensures c.in_ok-push.ensures.items
+pub loop-change-preserved : goal.loop-change-preserved
+loop-change-preserved c = middle_more c.args.patch.now.changes c.loop-change.change-iterator c.next.new.self (hunk_seen c.in-Some.change) c.loop-change.middles.items c.push.new.self.items c.of.result
+    c.in-Some.ensures.steps c.loop-change.invariant c.of.ensures c.in_ok-push.ensures.items
+
+pub returns : goal.returns
+returns c = middle_last c.args.patch.now.changes c.loop-change.change-iterator c.loop-change.middles.items c.in-None.ensures.steps.0 c.loop-change.invariant

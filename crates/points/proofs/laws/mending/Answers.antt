@@ -1,5 +1,5 @@
 use Rattle.std.proofs.Common.{arith}
-use Rattle.points.proofs.MendingLemmas.{mended_is, well_formed-mended, mended-well_formed, utf16_of-text_of}
+use Rattle.points.proofs.MendingLemmas.{mended_is, well_formed-mended, mended-well_formed, mended_units, utf16_of-text_of}
 use Rattle.points.proofs.laws.mending.Goals as goal
 
 pub returns-clause-offsets : goal.returns-clause-offsets
@@ -13,3 +13,6 @@ returns-clause-kept c = mended-well_formed c.args.units.now
 
 pub returns-clause-read : goal.returns-clause-read
 returns-clause-read c = utf16_of-text_of c.args.units.now (λ k. omega (arith, c.type_inv.units k))
+
+pub returns-clause-units : goal.returns-clause-units
+returns-clause-units c = mended_units c.args.units.now (λ k. omega (arith, c.type_inv.units k))

@@ -1,0 +1,18 @@
+//! Tests of the base crates, and tests that cross crates: no code of its own. A crate whose tests stand
+//! here is proved once, and not a second time with its tests.
+#![tactic(auto)]
+
+#[cfg(test)]
+mod line_text_tests;
+#[cfg(test)]
+mod patch_algebra_tests;
+#[cfg(test)]
+mod patch_cases;
+#[cfg(test)]
+mod patch_tests;
+#[cfg(test)]
+mod points_tests;
+#[cfg(test)]
+mod splice_runs_tests;
+#[cfg(test)]
+mod tagged_runs;
