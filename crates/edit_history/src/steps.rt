@@ -5,12 +5,9 @@ ghost use Rattle.edit_history.specs.History.{pushed, undone, redone, next_of, ot
 
 use circular_buffer::HeapCircularBuffer;
 use patch::Change;
-use points::NoMemory;
+use points::{MAX_STEPS, NoMemory};
 use std::alloc::Global;
 use std::marker::Model;
-
-/// The most steps that the past keeps.
-pub const MAX_STEPS: usize = 1000;
 
 /// The changes that can be taken back, and those taken back that can be made again.
 #[derive(Drop)]
@@ -23,12 +20,13 @@ impl Model for Steps {
     ghost use Rattle.std.specs.Prelude.{◌≡◌, ◌≤◌, ◌+◌, length};
     ghost use Rattle.edit_history.specs.History.{History};
     ghost use Rattle.patch.specs.declared.change.Change.{Change};
+    ghost use Rattle.points.specs.declared.limits.TheConstants.{MAX_STEPS};
 
     ghost Value = { History Change };
 
     ghost view = { λ s. record { past = s.past.items; future = s.future.items } };
 
-    ghost invariant = { λ s. (s.past.capacity ≡ 1000) × (s.future.capacity ≡ 1000) × (length s.past.items + length s.future.items ≤ 1000) };
+    ghost invariant = { λ s. (s.past.capacity ≡ MAX_STEPS) × (s.future.capacity ≡ MAX_STEPS) × (length s.past.items + length s.future.items ≤ MAX_STEPS) };
 }
 
 impl Steps {

@@ -1,14 +1,15 @@
 -- Lists that a loop changes from one end.
-use Rattle.std.proofs.Common.{◌≡◌, ◌≢◌, ℕ, zero, suc, ◌+◌, ◌-◌, ◌<◌, ◌≤◌, Bool, true, false, cond, List, [], ◌∷◌, ◌++◌, map, length, get_or, set, take, drop, replicate, refl, sym, ap, ◌∙◌, arith, add-one}
+use Rattle.std.proofs.Common.{◌≡◌, ◌≢◌, ℕ, zero, suc, ◌+◌, ◌-◌, ◌<◌, ◌≤◌, Bool, true, false, cond, List, [], ◌∷◌, ◌++◌, map, length, get_or, set, take, drop, replicate, refl, sym, ap, ◌∙◌, arith, add-one, append-nil}
 use Rattle.std.proofs.lemmas.Grind.{get_or-set_at}
-use Rattle.std.proofs.lemmas.List.{get_or-set_other, take_more, length-map}
+use Rattle.std.proofs.lemmas.List.{get_or-set_other, take_more, length-map, length-take, take-append-drop, take-append-le, take_all}
+use Rattle.std.proofs.Math.ListN.{drop_of_length-le}
 use Rattle.std.specs.Prelude.{Option, Some, None, is_some, eqb, find, slice_index_or, slice_set, bit_or, ◌==◌, ◌||◌, ◌&&◌, not}
 use Rattle.std.proofs.lemmas.Grind.{common_steps}
 use Rattle.std.proofs.lemmas.Bool.Decides.{nat_tests}
 use Rattle.std.specs.List.{list_any}
 use Rattle.std.proofs.lemmas.Map.Steps.{le-length_from_below}
 use Rattle.places.specs.declared.placed.Placed.{Placed}
-use Rattle.places.specs.Placed.{without, newest_alone, hands_of, is_live, placed_at}
+use Rattle.places.specs.Placed.{without, newest_alone, hands_of, is_live, placed_at, others_of, top_alone}
 
 module _ {X : Type 0} where
   -- the first i elements are changed by f, and the others not yet
@@ -37,21 +38,34 @@ module _ {X : Type 0} where
   abbrev pub narrowed_from : ℕ → List (Placed X) → List (Placed X)
   narrowed_from i s = take i s ++ newest_alone (drop i s)
 
-  narrowed_next : (j : ℕ) (s : List (Placed X)) (d : Placed X) → j < length s → set (narrowed_from (suc j) s) j (without (hands_of (drop (suc j) s)) (get_or (narrowed_from (suc j) s) j d)) ≡ narrowed_from j s
-  narrowed_next j [] d h = absurd (omega arith)
-  narrowed_next zero (x ∷ xs) d h = refl
-  narrowed_next (suc j) (x ∷ xs) d h = ap (λ l. x ∷ l) (narrowed_next j xs d (omega arith))
+  narrowed_next : (j : ℕ) (s z : List (Placed X)) (d : Placed X) → j < length s → set (narrowed_from (suc j) s ++ z) j (without (hands_of (drop (suc j) s)) (get_or (narrowed_from (suc j) s ++ z) j d)) ≡ narrowed_from j s ++ z
+  narrowed_next j [] z d h = absurd (omega arith)
+  narrowed_next zero (x ∷ xs) z d h = refl
+  narrowed_next (suc j) (x ∷ xs) z d h = ap (λ l. x ∷ l) (narrowed_next j xs z d (omega arith))
 
-  pub narrowed_more : (i j : ℕ) (s ys : List (Placed X)) (d : Placed X) → i ≡ suc j → j < length s → ys ≡ narrowed_from i s → set ys j (without (hands_of (drop i s)) (get_or ys j d)) ≡ narrowed_from j s
-  narrowed_more i j s ys d at h e = rw (e, at) (narrowed_next j s d h)
+  pub narrowed_more : (i j : ℕ) (s z ys : List (Placed X)) (d : Placed X) → i ≡ suc j → j < length s → ys ≡ narrowed_from i s ++ z → set ys j (without (hands_of (drop i s)) (get_or ys j d)) ≡ narrowed_from j s ++ z
+  narrowed_more i j s z ys d at h e = rw (e, at) (narrowed_next j s z d h)
 
-  hands_next : (j : ℕ) (s : List (Placed X)) (d : Placed X) → j < length s → bit_or (hands_of (drop (suc j) s)) (get_or (narrowed_from (suc j) s) j d).mask ≡ hands_of (drop j s)
-  hands_next j [] d h = absurd (omega arith)
-  hands_next zero (x ∷ xs) d h = refl
-  hands_next (suc j) (x ∷ xs) d h = hands_next j xs d (omega arith)
+  hands_next : (j : ℕ) (s z : List (Placed X)) (d : Placed X) → j < length s → bit_or (hands_of (drop (suc j) s)) (get_or (narrowed_from (suc j) s ++ z) j d).mask ≡ hands_of (drop j s)
+  hands_next j [] z d h = absurd (omega arith)
+  hands_next zero (x ∷ xs) z d h = refl
+  hands_next (suc j) (x ∷ xs) z d h = hands_next j xs z d (omega arith)
 
-  pub hands_more : (i j : ℕ) (s ys : List (Placed X)) (d : Placed X) → i ≡ suc j → j < length s → ys ≡ narrowed_from i s → bit_or (hands_of (drop i s)) (get_or ys j d).mask ≡ hands_of (drop j s)
-  hands_more i j s ys d at h e = rw (e, at) (hands_next j s d h)
+  pub hands_more : (i j : ℕ) (s z ys : List (Placed X)) (d : Placed X) → i ≡ suc j → j < length s → ys ≡ narrowed_from i s ++ z → bit_or (hands_of (drop i s)) (get_or ys j d).mask ≡ hands_of (drop j s)
+  hands_more i j s z ys d at h e = rw (e, at) (hands_next j s z d h)
+
+module _ {X : Type 0} where
+  -- before the first step nothing is narrowed
+  pub narrowed_none : (t : List (Placed X)) → (0 ≡ hands_of (drop (length t - 1) (others_of t))) × (t ≡ narrowed_from (length t - 1) (others_of t) ++ top_alone t)
+  narrowed_none t =
+      let long : length (others_of t) ≤ length t - 1 = omega (arith, length-take (length t - 1) t) in
+      let none = drop_of_length-le (others_of t) {i = length t - 1} long in
+      let all = take_all (length t - 1) (others_of t) long in
+      (rw none refl, rw (none, all, append-nil) (sym (take-append-drop (length t - 1) t)))
+
+  -- a list that was lent whole and written
+  pub whole_again : (n : ℕ) (new items : List (Placed X)) → length new ≡ n → take n (new ++ drop (length new) items) ≡ new
+  whole_again n new items e = take-append-le n new (drop (length new) items) (omega arith) ∙ take_all n new (omega arith)
 
 -- nothing is marked in a list of no marks
 pub unmarked : (n p : ℕ) → get_or (replicate n false) p false ≡ false

@@ -1,6 +1,6 @@
 //! Hands put on places and taken from them.
 ghost use Rattle.std.specs.Prelude.{◌≡◌, ◌+◌, ◌-◌, ◌<◌, ◌≤◌, ◌^◌, map};
-ghost use Rattle.places.specs.Placed.{noted, without, newest_alone, hand_mask};
+ghost use Rattle.places.specs.Placed.{noted, quieted, narrowed, hand_mask};
 
 use crate::placed::Placed;
 
@@ -22,21 +22,23 @@ pub(crate) fn add_hands<X>(entries: &mut [Placed<X>], place: u32, hands: u64)
     }
 }
 
-// Takes hands from all of these.
+// Takes hands from all but the last.
 pub(crate) fn take_hands<X>(entries: &mut [Placed<X>], hands: u64)
-    ensures { entries.new ≡ map (without hands) entries.old }
+    ensures { entries.new ≡ quieted hands entries.old }
 {
-    for entry in entries.iter_mut() {
+    let others = entries.len().saturating_sub(1);
+    for at in 0..others {
+        let entry = &mut entries[at];
         entry.mask &= !hands;
     }
 }
 
-// Leaves each hand at the newest of these that has it.
+// Leaves each hand at the newest that has it, the last aside.
 pub(crate) fn narrow_hands<X>(entries: &mut [Placed<X>])
-    ensures { entries.new ≡ newest_alone entries.old }
+    ensures { entries.new ≡ narrowed entries.old }
 {
     let mut seen = 0;
-    let mut at = entries.len();
+    let mut at = entries.len().saturating_sub(1);
     while at > 0 {
         at -= 1;
         let entry = &mut entries[at];

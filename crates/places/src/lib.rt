@@ -16,4 +16,4 @@ mod placed;
 mod table;
 
 pub use placed::{MAX_DEPTH, PLACES, Placed, TopId};
-pub use table::Table;
+pub use table::{Table, places_are_sound};

@@ -90,6 +90,13 @@ impl<X> Table<X> {
         find(&self.entries, place)?.parent
     }
 
+    /// How many places the chain of a place has.
+    pub fn depth(&self, place: u32) -> Option<u32>
+        ensures { result ≡ option_map (λ e. e.depth) (placed_at self.now place) }
+    {
+        Some(find(&self.entries, place)?.depth)
+    }
+
     /// What is held at a place.
     pub fn held(&self, place: u32) -> Option<&X>
         ensures { option_copied result ≡ option_map (λ e. e.held) (placed_at self.now place) }
@@ -142,8 +149,7 @@ impl<X> Table<X> {
     pub fn quiet(&mut self, hand: u32)
         ensures { self.new ≡ quieted (hand_mask hand) self.old }
     {
-        let others = self.entries.len() - 1;
-        take_hands(&mut self.entries[..others], mask_of(hand));
+        take_hands(&mut self.entries, mask_of(hand));
     }
 
     /// Leaves each hand at the newest place that has it, the top aside.
@@ -151,8 +157,7 @@ impl<X> Table<X> {
         ensures list { self.new ≡ narrowed self.old }
         ensures narrow { IsNarrow self.new }
     {
-        let others = self.entries.len() - 1;
-        narrow_hands(&mut self.entries[..others]);
+        narrow_hands(&mut self.entries);
     }
 
     /// Frees each place that is neither the top nor has a hand nor stands below such a place, and answers how many
@@ -169,4 +174,12 @@ impl<X> Table<X> {
         self.entries.retain(|entry| is_marked(&kept, entry.place));
         before - self.entries.len()
     }
+}
+
+/// What is true of every table: at least one place is taken and what was put in last is the top; each place stands on
+/// nothing or on an older one that is live and one less deep; no two have one number or one age.
+pub fn places_are_sound<X>(table: &Table<X>)
+    ensures { IsTable table.now }
+{
+    let _ = &table.entries;
 }

@@ -1,13 +1,8 @@
-// A library with one function.
+//! Watchers of a text: boxed objects of the caller that hear every change once.
 #![tactic(auto)]
 
-ghost use Rattle.std.specs.Prelude.{◌≡◌};
-ghost use Rattle.watch.specs.Echo.{echo_of};
+mod list_watcher;
+mod watcher;
 
-// The `ensures` clause is the contract: what `echo` returns is `echo_of` of its argument, a definition
-// in `specs/Echo.antt`, which a caller's clause can cite too.
-pub fn echo(x: usize) -> usize
-    ensures { result ≡ echo_of x }
-{
-    x
-}
+pub use list_watcher::ListWatcher;
+pub use watcher::{Heard, Watcher};
