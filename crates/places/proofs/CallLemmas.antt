@@ -23,7 +23,7 @@ module _ {X : Type 0} where
       let age : id ≡ top_id t = eid ∙ ap top_id ea in
       let deep : depth ≡ depth_on t parent = edepth ∙ ap (λ l. depth_on l parent) eb in
       e ∙ (ap (λ i. t ++ record { place = p; age = i.age + 1; parent = parent; depth = depth; mask = 0; held = x } ∷ []) age
-          ∙ ap (λ n. t ++ record { place = p; age = (top_id t).age + 1; parent = parent; depth = n; mask = 0; held = x } ∷ []) deep)
+      ∙ ap (λ n. t ++ record { place = p; age = (top_id t).age + 1; parent = parent; depth = n; mask = 0; held = x } ∷ []) deep)
 
 -- a push for which there was room
 pub had_room : {A U E : Type 0} (r : Result U E) (new all old : A) (len cap : ℕ) → new ≡ (if is_ok r then all else old) → OnErr r (cap ≤ len) → len < cap → new ≡ all

@@ -28,8 +28,8 @@ pub(crate) fn take_hands<X>(entries: &mut [Placed<X>], hands: u64)
 {
     let others = entries.len().saturating_sub(1);
     for at in 0..others {
-        let entry = &mut entries[at];
-        entry.mask &= !hands;
+        let other = &mut entries[at];
+        other.mask &= !hands;
     }
 }
 

@@ -15,7 +15,7 @@ returns-clause-kept g c =
     let t = c.self.inside.entries.items in
     let same = filter_same _ (λ e. get_or c.kept_places-kept.result e.place false) _ (λ x b f k. search rules) _ _ c.retain.ensures.filtered in
     let agree = filters_agree (λ (e : Placed g.row.X.Denot). get_or c.kept_places-kept.result e.place false) (is_kept t) t
-        (pass_keeps t c.deref.result.now c.deref-2.result.now c.newest.result c.kept_places-kept.result c.self.invariant.0 c.deref.ensures.value c.deref-2.ensures.value c.newest.ensures c.kept_places-kept.ensures) in
+    (pass_keeps t c.deref.result.now c.deref-2.result.now c.newest.result c.kept_places-kept.result c.self.invariant.0 c.deref.ensures.value c.deref-2.ensures.value c.newest.ensures c.kept_places-kept.ensures) in
     let P : List (Placed g.row.X.Denot) → Type 0 = λ u. c.retain.new.self.items ≡ filter (is_kept u) u in
     subst P c.self.view_is (same ∙ agree)
 
