@@ -1,5 +1,5 @@
 -- The past and the future of a text.
-use Rattle.std.specs.Prelude.{ℕ, ◌-◌, List, [], ◌∷◌, ◌++◌, length, take, drop, slice_get, Option}
+use Rattle.std.specs.Prelude.{ℕ, ◌-◌, List, [], ◌∷◌, ◌++◌, length, take, drop, slice_get, nat_lt, if◌then◌else◌, Option, None}
 
 -- the steps that can be taken back, and those that can be made again, the next one last
 pub record History (X : Type 0) : Type 0 where
@@ -22,6 +22,10 @@ module _ {X : Type 0} where
   -- the latest n
   abbrev pub latest : ℕ → List X → List X
   latest n xs = drop (length xs - n) xs
+
+  -- the oldest one, which has to go for a new one where n are kept already
+  abbrev pub oldest_gone : ℕ → List X → Option X
+  oldest_gone n xs = if nat_lt (length xs) n then None else slice_get xs 0
 
   -- a new step goes to the end of the past, of which the latest n are kept, and nothing can be made again
   abbrev pub pushed : ℕ → History X → X → History X

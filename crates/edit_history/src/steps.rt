@@ -1,7 +1,7 @@
-ghost use Rattle.std.specs.Prelude.{◌≡◌, ◌<◌, ◌≤◌, ◌+◌, ◌++◌, ◌↔◌, [], length, slice_get, option_copied, IfOk, IsTrue, if◌then◌else◌, nat_lt, None};
+ghost use Rattle.std.specs.Prelude.{◌≡◌, ◌<◌, ◌≤◌, ◌+◌, ◌++◌, ◌↔◌, [], length, option_copied, IfOk, IsTrue};
 ghost use Rattle.circular_buffer.specs.Buffer.{buffer};
 ghost use Rattle.std.specs.Borrow.{sem};
-ghost use Rattle.edit_history.specs.History.{pushed, undone, redone, next_of, others_of, next_alone};
+ghost use Rattle.edit_history.specs.History.{pushed, undone, redone, oldest_gone, next_of, others_of, next_alone};
 
 use circular_buffer::HeapCircularBuffer;
 use patch::Change;
@@ -26,7 +26,8 @@ impl Model for Steps {
 
     ghost view = { λ s. record { past = s.past.items; future = s.future.items } };
 
-    ghost invariant = { λ s. (s.past.capacity ≡ MAX_STEPS) × (s.future.capacity ≡ MAX_STEPS) × (length s.past.items + length s.future.items ≤ MAX_STEPS) };
+    ghost invariant = { λ s. (s.past.capacity ≡ MAX_STEPS) × (s.future.capacity ≡ MAX_STEPS)
+        × (length s.past.items + length s.future.items ≤ MAX_STEPS) };
 }
 
 impl Steps {
@@ -45,7 +46,7 @@ impl Steps {
     /// the step that fell out, the oldest.
     pub fn push(&mut self, change: Change) -> Option<Change>
         ensures steps { self.new ≡ pushed MAX_STEPS self.old change }
-        ensures fell { result ≡ (if nat_lt (length self.old.past) MAX_STEPS then None else slice_get self.old.past 0) }
+        ensures fell { result ≡ oldest_gone MAX_STEPS self.old.past }
     {
         self.future.clear();
         self.past.push_back(change)

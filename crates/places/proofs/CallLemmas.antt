@@ -1,11 +1,11 @@
 -- What the calls of a table put together.
-use Rattle.std.proofs.Common.{◌≡◌, ℕ, ◌+◌, ◌-◌, ◌<◌, ◌≤◌, Bool, true, false, List, [], ◌∷◌, ◌++◌, length, get_or, Option, refl, sym, ap, subst, ◌∙◌, arith, All}
+use Rattle.std.proofs.Common.{◌≡◌, ℕ, ◌+◌, ◌<◌, ◌≤◌, Bool, false, List, [], ◌∷◌, ◌++◌, get_or, Option, ap, ◌∙◌, arith, All}
 use Rattle.std.specs.Prelude.{is_ok, OnErr, if◌then◌else◌}
 use Rattle.std.specs.Prelude.{Result, Ok, Err}
 use Rattle.places.specs.declared.placed.Placed.{Placed}
 use Rattle.places.specs.declared.placed.TopId.{TopId}
 use Rattle.places.specs.Placed.{top_id, depth_on, is_kept, with_top}
-use Rattle.places.specs.Table.{IsPlaced, IsTable}
+use Rattle.places.specs.Table.{IsTable}
 use Rattle.places.specs.Marking.{marked}
 use Rattle.places.proofs.MarkLemmas.{marked_is}
 

@@ -1,13 +1,8 @@
 -- How many places are kept.
-use Rattle.std.proofs.Common.{◌≡◌, ◌≢◌, ℕ, zero, suc, ◌+◌, ◌-◌, ◌*◌, ◌^◌, ◌<◌, ◌≤◌, Bool, true, false, cond, List, [], ◌∷◌, ◌++◌, map, length, take, drop, Option, Some, None, refl, sym, ap, ◌∙◌, arith, All, AllPairs}
-use Rattle.std.specs.Prelude.{filter, not, ◌==◌, ◌||◌, ◌&&◌}
+use Rattle.std.proofs.Common.{◌≡◌, ℕ, ◌+◌, ◌*◌, ◌≤◌, Bool, true, false, cond, List, [], ◌∷◌, length, refl, arith, All}
+use Rattle.std.specs.Prelude.{filter, ◌||◌, ◌&&◌}
 use Rattle.std.specs.List.{list_any}
-use Rattle.std.proofs.lemmas.Grind.{common_steps}
-use Rattle.std.proofs.lemmas.Bool.Decides.{nat_tests}
-use Rattle.std.proofs.lemmas.List.Elements.{All-cons, All-head, All-tail}
-use Rattle.places.specs.declared.placed.Placed.{Placed}
-use Rattle.places.specs.Placed.{chain_of, parent_of, is_among, is_wanted, top_id, others_of, top_alone}
-use Rattle.places.proofs.FindLemmas.{pairs_head, pairs_tail}
+use Rattle.std.proofs.lemmas.List.Elements.{All-head, All-tail}
 
 abbrev one : Bool → ℕ
 one b = cond b 1 0

@@ -1,13 +1,12 @@
 -- Hands as the bits of masks.
-use Rattle.std.proofs.Common.{◌≡◌, ◌≢◌, ℕ, zero, suc, ◌+◌, ◌-◌, ◌^◌, ◌<◌, ◌≤◌, Bool, true, false, cond, List, [], ◌∷◌, ◌++◌, map, length, refl, sym, ap, ◌∙◌, arith, All, AllPairs}
-use Rattle.std.specs.Prelude.{bit_and, bit_or, min, max, count_by, not, ◌==◌}
-use Rattle.std.specs.Int.{bit_at, bit_not}
-use Rattle.std.proofs.lemmas.Grind.{common_steps}
+use Rattle.std.proofs.Common.{◌≡◌, ◌≢◌, ℕ, zero, suc, ◌+◌, ◌^◌, ◌<◌, ◌≤◌, Bool, true, false, cond, List, [], ◌∷◌, refl, sym, ap, ◌∙◌, arith, All, AllPairs}
+use Rattle.std.specs.Prelude.{bit_and, bit_or, min, not, ◌==◌}
+use Rattle.std.specs.Int.{bit_at}
 use Rattle.std.proofs.lemmas.Bool.Decides.{nat_tests}
-use Rattle.std.proofs.lemmas.Nat.Bits.{bit_at_and, bit_at_or, bit_at-zero, bit_at_not, bit_at-lt, bit_at_above, same_from_bits, same_from_bits_below}
-use Rattle.std.proofs.lemmas.List.Elements.{All-cons, All-head, All-tail}
+use Rattle.std.proofs.lemmas.Nat.Bits.{bit_at_and, bit_at_or, bit_at-zero, bit_at-lt, same_from_bits, same_from_bits_below}
+use Rattle.std.proofs.lemmas.List.Elements.{All-head, All-tail}
 use Rattle.places.specs.declared.placed.Placed.{Placed}
-use Rattle.places.specs.Placed.{hands_of, hands_without, without, newest_alone}
+use Rattle.places.specs.Placed.{hands_of}
 use Rattle.places.proofs.CountLemmas.{how_many}
 use Rattle.places.proofs.FindLemmas.{pairs_head, pairs_tail}
 

@@ -1,13 +1,10 @@
 -- What is marked is what is kept.
-use Rattle.std.proofs.Common.{◌≡◌, ◌≢◌, ℕ, zero, suc, ◌+◌, ◌-◌, ◌<◌, ◌≤◌, Bool, true, false, cond, List, [], ◌∷◌, ◌++◌, length, get_or, Option, Some, None, refl, sym, ap, subst, ◌∙◌, arith, All, AllPairs, Contains}
+use Rattle.std.proofs.Common.{◌≡◌, ◌≢◌, ℕ, zero, suc, ◌≤◌, Bool, true, false, List, [], ◌∷◌, get_or, Option, Some, None, refl, sym, ap, subst, ◌∙◌, arith, All, AllPairs, Contains}
 use Rattle.std.specs.Prelude.{option_and_then, not, ◌==◌, ◌||◌, ◌&&◌}
-use Rattle.std.specs.List.{list_any}
-use Rattle.std.proofs.lemmas.Grind.{common_steps}
-use Rattle.std.proofs.lemmas.Bool.Decides.{nat_tests}
 use Rattle.std.proofs.lemmas.List.Elements.{All-cons, All-head, All-tail, All-contains, All-contains_itself}
 use Rattle.places.specs.declared.placed.Placed.{Placed}
-use Rattle.places.specs.Placed.{placed_at, parent_of, top_id, top_of, is_among, chain_of, is_wanted, keeps, is_kept}
-use Rattle.places.specs.Table.{IsPlaced, IsOver, IsTable}
+use Rattle.places.specs.Placed.{placed_at, parent_of, top_id, top_of, is_among, chain_of, is_wanted, keeps}
+use Rattle.places.specs.Table.{IsPlaced, IsTable}
 use Rattle.places.specs.Marking.{is_parent, marked}
 use Rattle.places.proofs.FindLemmas.{pairs_head, pairs_tail, found_all}
 use Rattle.places.proofs.StandLemmas.{same_number, number_is, number_not, any_found, any_true, here_is, place_is, below, top_there, not_below}

@@ -1,16 +1,15 @@
 -- A table stays one when hands come and go, and what narrow leaves.
-use Rattle.std.proofs.Common.{◌≡◌, ◌≢◌, ℕ, zero, suc, ◌+◌, ◌-◌, ◌^◌, ◌<◌, ◌≤◌, Bool, true, false, cond, List, [], ◌∷◌, ◌++◌, map, length, length-append, get_or, take, drop, refl, sym, ap, subst, ◌∙◌, arith, All, AllPairs}
-use Rattle.std.specs.Prelude.{◌==◌, nat_lt, bit_and, bit_or, min, max}
-use Rattle.std.specs.Int.{bit_at, bit_not}
-use Rattle.std.proofs.lemmas.Grind.{common_steps}
+use Rattle.std.proofs.Common.{◌≡◌, ℕ, suc, ◌+◌, ◌-◌, ◌^◌, ◌<◌, ◌≤◌, Bool, true, false, List, [], ◌∷◌, ◌++◌, map, length, length-append, refl, sym, ap, subst, ◌∙◌, arith, All, AllPairs}
+use Rattle.std.specs.Prelude.{◌==◌, nat_lt, bit_and}
+use Rattle.std.specs.Int.{bit_at}
 use Rattle.std.proofs.lemmas.Bool.Decides.{nat_tests}
 use Rattle.std.proofs.lemmas.Nat.{and_le_l, or_of_32}
-use Rattle.std.proofs.lemmas.Nat.Bits.{bit_at_and, bit_at_or, bit_at-zero, bit_at_not, bit_at-lt, bit_at_above, same_from_bits, same_from_bits_below}
-use Rattle.std.proofs.lemmas.List.{length-map, length-take, take-append-drop, take-append-le, take_all}
+use Rattle.std.proofs.lemmas.Nat.Bits.{bit_at_and, bit_at_or, bit_at-zero, bit_at_not, bit_at-lt, bit_at_above, same_from_bits}
+use Rattle.std.proofs.lemmas.List.{length-take, take-append-drop, take-append-le, take_all}
 use Rattle.std.proofs.lemmas.List.Kept.{AllPairs-cons}
 use Rattle.std.proofs.lemmas.List.Elements.{All-cons, All-head, All-tail, All-append, All-take, All-drop, All-weaker, All-nil}
 use Rattle.places.specs.declared.placed.Placed.{Placed}
-use Rattle.places.specs.Placed.{hands_of, hands_without, without, noted, quieted, narrowed, newest_alone, others_of, top_alone, IsNarrow}
+use Rattle.places.specs.Placed.{hands_of, without, noted, quieted, narrowed, newest_alone, others_of, top_alone, IsNarrow}
 use Rattle.places.specs.Table.{IsPlaced, IsTable}
 use Rattle.places.proofs.TableLemmas.{unmasked, remasked}
 use Rattle.std.specs.Int.{w64}

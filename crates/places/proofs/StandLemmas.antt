@@ -1,16 +1,15 @@
 -- What stands on what.
-use Rattle.std.proofs.Common.{◌≡◌, ◌≢◌, ℕ, zero, suc, ◌+◌, ◌-◌, ◌^◌, ◌<◌, ◌≤◌, Bool, true, false, cond, List, [], ◌∷◌, ◌++◌, map, length, get_or, take, drop, Option, Some, None, refl, sym, ap, subst, ◌∙◌, arith, All, AllPairs, Contains}
-use Rattle.std.specs.Prelude.{find, filter, option_map, option_and_then, is_some, slice_index_or, slice_get, not, ◌==◌, ◌||◌, ◌&&◌, MatchOption}
+use Rattle.std.proofs.Common.{◌≡◌, ◌≢◌, ℕ, zero, suc, ◌-◌, ◌<◌, Bool, true, false, List, [], ◌∷◌, length, get_or, Option, Some, None, refl, arith, All, AllPairs, Contains}
+use Rattle.std.specs.Prelude.{◌==◌, ◌||◌, MatchOption}
 use Rattle.std.specs.List.{list_any}
-use Rattle.std.proofs.lemmas.Grind.{common_steps}
 use Rattle.std.proofs.lemmas.Bool.Decides.{nat_tests}
-use Rattle.std.proofs.lemmas.Option.{slice_get_cases, slice_get-get_or, slice_get_within}
-use Rattle.std.proofs.lemmas.List.Elements.{All-cons, All-head, All-tail, All-contains, Contains-get_or}
+use Rattle.std.proofs.lemmas.Option.{slice_get-get_or}
+use Rattle.std.proofs.lemmas.List.Elements.{All-cons, All-contains, Contains-get_or}
 use Rattle.places.specs.declared.placed.Placed.{Placed}
-use Rattle.places.specs.Placed.{placed_at, is_live, parent_of, top_id, top_of, id_of, is_among, chain_of}
-use Rattle.places.specs.Table.{IsPlaced, IsOver, StandsIn, IsTable}
+use Rattle.places.specs.Placed.{placed_at, parent_of, top_of}
+use Rattle.places.specs.Table.{IsOver, StandsIn, IsTable}
 use Rattle.places.specs.Marking.{is_parent}
-use Rattle.places.proofs.FindLemmas.{pairs_head, pairs_tail, found, found_in, found_all}
+use Rattle.places.proofs.FindLemmas.{pairs_head, pairs_tail, found, found_all}
 
 pub same_number : (n : ℕ) → (n == n) ≡ true
 same_number n = grind (arith, nat_tests)

@@ -1,19 +1,18 @@
 -- A table stays one.
-use Rattle.std.proofs.Common.{◌≡◌, ◌≢◌, ℕ, zero, suc, ◌+◌, ◌-◌, ◌^◌, ◌<◌, ◌≤◌, Bool, true, false, cond, List, [], ◌∷◌, ◌++◌, map, length, length-append, get_or, take, drop, Option, Some, None, refl, sym, ap, subst, ◌∙◌, arith, All, AllPairs, Contains}
-use Rattle.std.specs.Prelude.{find, filter, option_map, option_and_then, is_some, slice_get, not, ◌==◌, ◌||◌, ◌&&◌, MatchOption, IfSome, IsTrue}
-use Rattle.std.proofs.lemmas.Grind.{common_steps}
+use Rattle.std.proofs.Common.{◌≡◌, ◌≢◌, ℕ, zero, suc, ◌+◌, ◌-◌, ◌^◌, ◌<◌, ◌≤◌, Bool, true, false, cond, List, [], ◌∷◌, ◌++◌, map, length, length-append, get_or, Option, Some, None, refl, sym, ap, subst, ◌∙◌, arith, All, Contains}
+use Rattle.std.specs.Prelude.{filter, option_map, is_some, ◌==◌, MatchOption, IfSome, IsTrue}
 use Rattle.std.proofs.lemmas.Bool.Decides.{nat_tests}
 use Rattle.std.proofs.Math.ListN.{get_or-map}
 use Rattle.std.proofs.lemmas.List.{length-map}
 use Rattle.std.proofs.lemmas.List.Kept.{AllPairs-filter}
 use Rattle.std.proofs.lemmas.List.Quantifiers.{all_pairs_push}
-use Rattle.std.proofs.lemmas.List.Elements.{All-cons, All-head, All-tail, All-push, All-weaker, All-filter, All-contains, All-contains_itself, filter_passes, Contains-get_or}
+use Rattle.std.proofs.lemmas.List.Elements.{All-cons, All-push, All-weaker, All-filter, All-contains, All-contains_itself, filter_passes}
 use Rattle.std.proofs.lemmas.Option.{slice_get-get_or}
 use Rattle.places.specs.declared.placed.Placed.{Placed}
-use Rattle.places.specs.Placed.{placed_at, is_live, parent_of, depth_on, top_id, top_of, id_of, keeps, is_kept, with_top}
+use Rattle.places.specs.Placed.{placed_at, is_live, depth_on, top_id, keeps, is_kept, with_top}
 use Rattle.places.specs.Table.{IsPlaced, IsOver, StandsIn, IsTable, IsLowestFree}
 use Rattle.places.proofs.FindLemmas.{found_push, found_filter, found_map, found_in, none_found}
-use Rattle.places.proofs.StandLemmas.{place_is, number_not, here_is, top_there}
+use Rattle.places.proofs.StandLemmas.{place_is, top_there}
 use Rattle.places.proofs.MarkLemmas.{keeps_parent, keeps_top}
 
 module _ {X : Type 0} where

@@ -1,5 +1,5 @@
 -- A table of places: what stands at each, oldest first. The last is the top.
-use Rattle.std.specs.Prelude.{◌≡◌, ℕ, zero, suc, ◌+◌, ◌-◌, ◌^◌, Bool, true, false, not, ◌&&◌, ◌||◌, ◌==◌, cond, List, [], ◌∷◌, ◌++◌, map, length, take, drop, slice_get, find, filter, Option, Some, None, is_some, option_map, option_and_then, nat_lt, bit_and, bit_or, AllPairs}
+use Rattle.std.specs.Prelude.{◌≡◌, ℕ, zero, suc, ◌+◌, ◌-◌, ◌^◌, Bool, not, ◌&&◌, ◌||◌, ◌==◌, cond, List, [], ◌∷◌, ◌++◌, map, length, take, drop, slice_get, find, Option, Some, None, is_some, option_map, option_and_then, nat_lt, bit_and, bit_or, AllPairs}
 use Rattle.std.specs.List.{list_any}
 use Rattle.std.specs.Option.{unwrap_or}
 use Rattle.places.specs.declared.placed.Placed.{Placed}
@@ -17,6 +17,10 @@ abbrev pub hand_mask : ℕ → ℕ
 hand_mask hand = cond (nat_lt hand 64) (2 ^ hand) 0
 
 module _ {X : Type 0} where
+  -- x alone, at place 0
+  abbrev pub first : X → List (Placed X)
+  first x = record { place = 0; age = 0; parent = None; depth = 1; mask = 0; held = x } ∷ []
+
   -- what stands at a place
   abbrev pub placed_at : List (Placed X) → ℕ → Option (Placed X)
   placed_at t p = find (λ e. e.place == p) t

@@ -1,5 +1,5 @@
 -- What is true of every table of places.
-use Rattle.std.specs.Prelude.{◌≡◌, ◌≢◌, ℕ, ◌+◌, ◌-◌, ◌^◌, ◌<◌, ◌≤◌, List, length, Option, None, MatchOption, IsTrue, All, AllPairs}
+use Rattle.std.specs.Prelude.{◌≡◌, ◌≢◌, ℕ, ◌+◌, ◌^◌, ◌<◌, ◌≤◌, List, length, None, MatchOption, IsTrue, All, AllPairs}
 use Rattle.places.specs.declared.placed.Placed.{Placed}
 use Rattle.places.specs.Placed.{placed_at, is_live}
 

@@ -1,7 +1,7 @@
 //! Which places are kept, marked in one pass.
-ghost use Rattle.std.specs.Prelude.{◌≡◌, ◌+◌, ◌-◌, ◌<◌, ◌≤◌, ℕ, Bool, false, true, ◌==◌, ◌||◌, ◌&&◌, not, length, slice_index_or, cond, All};
+ghost use Rattle.std.specs.Prelude.{◌≡◌, ◌+◌, ◌-◌, ◌<◌, ◌≤◌, ℕ, Bool, false, true, ◌==◌, ◌||◌, length, slice_index_or, All};
 ghost use Rattle.places.specs.Placed.{top_id};
-ghost use Rattle.places.specs.Marking.{marked, is_parent};
+ghost use Rattle.places.specs.Marking.{marked, marked_on};
 
 use crate::placed::{PLACES, Placed};
 
@@ -22,7 +22,8 @@ pub(crate) fn kept_places<X>(entries: &[Placed<X>], top: u32) -> [bool; PLACES]
 
 // Marks one entry's place and its parent where it has a hand or is marked already.
 fn pass<X>(kept: &mut [bool], entry: &Placed<X>)
-    ensures { (p : ℕ) → p < length kept.old → slice_index_or kept.new p false ≡ (slice_index_or kept.old p false || ((not (entry.now.mask == 0) || slice_index_or kept.old entry.now.place false) && ((entry.now.place == p) || is_parent entry.now.parent p))) }
+    ensures { (p : ℕ) → p < length kept.old →
+        slice_index_or kept.new p false ≡ marked_on (λ q. slice_index_or kept.old q false) entry.now p }
 {
     if entry.mask == 0 && !is_marked(kept, entry.place) {
         return;
@@ -42,7 +43,8 @@ pub(crate) fn is_marked(kept: &[bool], place: u32) -> bool
 
 // Marks a place.
 pub(crate) fn mark(kept: &mut [bool], place: u32)
-    ensures { (p : ℕ) → p < length kept.old → slice_index_or kept.new p false ≡ ((place == p) || slice_index_or kept.old p false) }
+    ensures { (p : ℕ) → p < length kept.old →
+        slice_index_or kept.new p false ≡ ((place == p) || slice_index_or kept.old p false) }
 {
     let place = place as usize;
     if place < kept.len() {

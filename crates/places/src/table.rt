@@ -1,5 +1,5 @@
 ghost use Rattle.std.specs.Prelude.{◌≡◌, ◌+◌, ◌-◌, ◌<◌, ◌≤◌, ◌^◌, ◌↔◌, [], ◌∷◌, length, map, filter, option_map, option_copied, IfOk, IfSome, IsTrue, Some, None};
-ghost use Rattle.places.specs.Placed.{placed_at, is_live, parent_of, depth_on, top_of, top_id, free_of, with_top, noted, hand_mask, quieted, narrowed, is_kept, IsNarrow};
+ghost use Rattle.places.specs.Placed.{first, placed_at, is_live, parent_of, depth_on, top_of, top_id, free_of, with_top, noted, hand_mask, quieted, narrowed, is_kept, IsNarrow};
 ghost use Rattle.places.specs.Table.{IsTable, IsLowestFree};
 
 use crate::hands::{add_hands, mask_of, narrow_hands, take_hands};
@@ -34,7 +34,7 @@ impl<X> Table<X> {
     pub fn new(alloc: Global, held: X) -> Result<Self, NoMemory>
     where
         X: Drop,
-        ensures { IfOk result (λ t. t ≡ record { place = 0; age = 0; parent = None; depth = 1; mask = 0; held = held } ∷ []) }
+        ensures { IfOk result (λ t. t ≡ first held) }
     {
         let mut entries = Vec::with_capacity(alloc, PLACES)?;
         entries.push(Placed {

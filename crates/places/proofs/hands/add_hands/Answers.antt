@@ -1,9 +1,9 @@
-use Rattle.std.proofs.Common.{arith, ◌≡◌, ◌+◌, refl, ap, true, false, cond}
+use Rattle.std.proofs.Common.{arith, ◌≡◌, refl, true, false}
 use Rattle.std.proofs.lemmas.Bool.Decides.{nat_tests}
 use Rattle.std.proofs.lemmas.List.{set-get_or}
 use Rattle.std.specs.Prelude.{◌==◌, slice_index_or, bit_or}
 use Rattle.places.specs.Placed.{noted}
-use Rattle.places.proofs.ListLemmas.{changed_more, changed_same, changed_upto}
+use Rattle.places.proofs.ListLemmas.{changed_more, changed_same}
 use Rattle.places.proofs.hands.add_hands.Goals as goal
 use Rattle.places.proofs.hands.add_hands.Goals.{then-entry-place, else-entry-place}
 

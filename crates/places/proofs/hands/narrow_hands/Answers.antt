@@ -1,6 +1,6 @@
-use Rattle.std.proofs.Common.{arith, ◌≡◌, ◌<◌, ◌-◌, suc, length, sym, refl}
+use Rattle.std.proofs.Common.{arith, ◌<◌, ◌-◌, length}
 use Rattle.std.proofs.lemmas.List.{length-take}
-use Rattle.places.specs.Placed.{without, others_of, top_alone}
+use Rattle.places.specs.Placed.{others_of, top_alone}
 use Rattle.places.proofs.ListLemmas.{narrowed_more, hands_more, narrowed_none}
 use Rattle.places.proofs.hands.narrow_hands.Goals as goal
 

@@ -1,5 +1,5 @@
-use Rattle.std.proofs.Common.{◌≡◌, ◌≤◌, ◌-◌, ◌++◌, length, take, drop}
-use Rattle.places.specs.Placed.{newest_alone, hands_of, others_of, top_alone}
+use Rattle.std.proofs.Common.{◌≡◌, ◌≤◌, ◌-◌, ◌++◌, length, drop}
+use Rattle.places.specs.Placed.{hands_of, others_of, top_alone}
 use Rattle.places.proofs.ListLemmas.{narrowed_from}
 use Rattle.places.proofs.hands.narrow_hands.Given as goal
 

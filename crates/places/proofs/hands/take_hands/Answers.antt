@@ -1,4 +1,4 @@
-use Rattle.std.proofs.Common.{arith, ◌≡◌, refl}
+use Rattle.std.proofs.Common.{arith}
 use Rattle.places.specs.Placed.{without}
 use Rattle.places.proofs.ListLemmas.{changed_more}
 use Rattle.places.proofs.hands.take_hands.Goals as goal

@@ -1,4 +1,4 @@
-use Rattle.std.proofs.Common.{arith, ◌≡◌, ◌<◌, ◌∙◌, length, sym, refl, ap, false, true}
+use Rattle.std.proofs.Common.{arith, ◌∙◌, sym}
 use Rattle.places.proofs.ListLemmas.{not_live, all_live}
 use Rattle.places.proofs.look.lowest_free.Goals as goal
 use Rattle.places.proofs.look.lowest_free.Goals.{then-loop-place-test+else-taken-place, else-loop-place-test}

@@ -1,5 +1,5 @@
-use Rattle.std.proofs.Common.{arith, ◌≡◌, ◌<◌, ◌∙◌, length, sym, ap, false}
-use Rattle.std.specs.Prelude.{slice_index_or, ◌==◌, ◌||◌}
+use Rattle.std.proofs.Common.{arith, ◌<◌, ◌∙◌, length, sym, ap}
+use Rattle.std.specs.Prelude.{◌==◌, ◌||◌}
 use Rattle.places.proofs.ListLemmas.{unmarked, live_more}
 use Rattle.places.proofs.look.taken_places.Goals as goal
 

@@ -1,5 +1,5 @@
-use Rattle.std.proofs.Common.{arith, ◌≡◌, ◌<◌, ◌∙◌, length, drop, refl, false, replicate}
-use Rattle.std.specs.Prelude.{slice_index_or, ◌==◌}
+use Rattle.std.proofs.Common.{arith, ◌∙◌}
+use Rattle.std.specs.Prelude.{◌==◌}
 use Rattle.std.proofs.Math.Seq.{drop-length}
 use Rattle.places.proofs.ListLemmas.{unmarked, marked_alone}
 use Rattle.places.proofs.marks.kept_places.Goals as goal

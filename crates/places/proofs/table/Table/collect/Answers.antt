@@ -1,8 +1,8 @@
-use Rattle.std.proofs.Common.{arith, ◌≡◌, ◌∙◌, ◌≤◌, List, length, false, sym, ap, subst, rules, get_or}
+use Rattle.std.proofs.Common.{arith, ◌≡◌, ◌∙◌, ◌≤◌, List, false, sym, subst, rules, get_or}
 use Rattle.std.specs.Prelude.{filter}
 use Rattle.std.proofs.lemmas.Fn.{filter_same}
 use Rattle.places.specs.declared.placed.Placed.{Placed}
-use Rattle.places.specs.Placed.{is_kept, free_of, IsNarrow}
+use Rattle.places.specs.Placed.{is_kept, free_of}
 use Rattle.places.specs.Table.{IsTable}
 use Rattle.places.proofs.CallLemmas.{pass_keeps}
 use Rattle.places.proofs.FindLemmas.{filters_agree}

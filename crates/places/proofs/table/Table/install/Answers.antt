@@ -1,7 +1,6 @@
-use Rattle.std.proofs.Common.{arith, ◌≡◌, ◌∙◌, ◌<◌, ◌++◌, ◌∷◌, ◌+◌, [], List, length, sym, ap, subst}
+use Rattle.std.proofs.Common.{arith, ◌≡◌, ◌∙◌, ◌++◌, ◌∷◌, ◌+◌, [], List, length, sym, ap, subst}
 use Rattle.std.specs.Prelude.{vec_len, vec_capacity}
 use Rattle.places.specs.declared.placed.Placed.{Placed}
-use Rattle.places.specs.Placed.{with_top}
 use Rattle.places.specs.Table.{IsTable, IsLowestFree}
 use Rattle.places.proofs.CallLemmas.{built, had_room}
 use Rattle.places.proofs.TableLemmas.{topped}

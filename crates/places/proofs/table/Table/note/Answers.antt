@@ -1,4 +1,4 @@
-use Rattle.std.proofs.Common.{arith, ◌≡◌, ◌∙◌, length, map, sym, ap, subst}
+use Rattle.std.proofs.Common.{◌∙◌, map, sym, ap, subst}
 use Rattle.places.specs.Placed.{noted}
 use Rattle.places.specs.Table.{IsTable}
 use Rattle.places.proofs.ListLemmas.{whole_again}
