@@ -3,6 +3,8 @@
 #![tactic(auto)]
 
 #[cfg(test)]
+mod edit_history_tests;
+#[cfg(test)]
 mod line_text_tests;
 #[cfg(test)]
 mod machine_tests;
@@ -16,6 +18,8 @@ mod patch_algebra_tests;
 mod patch_cases;
 #[cfg(test)]
 mod patch_tests;
+#[cfg(test)]
+mod places_tests;
 #[cfg(test)]
 mod points_tests;
 #[cfg(test)]

@@ -1,0 +1,10 @@
+pub mod CallLemmas
+pub mod CountLemmas
+pub mod FindLemmas
+pub mod HandLemmas
+pub mod ListLemmas
+pub mod MarkLemmas
+pub mod MaskLemmas
+pub mod StandLemmas
+pub mod RoomLemmas
+pub mod TableLemmas
