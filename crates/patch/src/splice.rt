@@ -207,8 +207,14 @@ fn replace_run(
 // The change that the joint is.
 fn change_of(joint: Joint) -> Change
     requires { IsTrue (point_le joint.old_start joint.old_end) × IsTrue (point_le joint.new_start joint.new_end) }
-    ensures { hunk_of result ≡ record { old_start = joint.old_start; old_end = joint.old_end;
-        new_start = joint.new_start; new_end = joint.new_end; old_text = joint.old_text; new_text = joint.new_text } }
+    ensures { hunk_of result ≡ record {
+      old_start = joint.old_start;
+      old_end = joint.old_end;
+      new_start = joint.new_start;
+      new_end = joint.new_end;
+      old_text = joint.old_text;
+      new_text = joint.new_text;
+    } }
 {
     Change {
         old_range: Range::new(joint.old_start, joint.old_end),
