@@ -1,5 +1,5 @@
 -- What a script that was read keeps.
-use Rattle.std.proofs.Common.{◌≡◌, ◌&&◌, ℕ, List, [], ◌∷◌, ◌≤◌, Bool, true, false, cond, Option, Some, None, refl}
+use Rattle.std.proofs.Common.{◌≡◌, ℕ, List, [], ◌∷◌, ◌≤◌, Bool, true, false, cond, Option, Some, None, refl}
 use Rattle.std.specs.Prelude.{option_map, length, IsSomeAnd}
 use Rattle.std.specs.List.{AllByRecursion, list_all}
 use Rattle.std.proofs.lemmas.Bool.{leb-true, and_parts, false≢true}

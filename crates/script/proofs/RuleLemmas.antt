@@ -1,5 +1,5 @@
 -- The value of a script of what is built has no place that breaks a rule exactly where the script is within its limits.
-use Rattle.std.proofs.Common.{◌≡◌, ◌+◌, ◌<◌, ◌≤◌, ◌++◌, ◌&&◌, ◌||◌, not, ℕ, List, [], ◌∷◌, length, map, drop, count_by, Bool, true, false, cond, Option, Some, None, option_map, option_and_then, is_some, refl, sym, ap, subst, ◌∙◌, arith, length-append}
+use Rattle.std.proofs.Common.{◌≡◌, ◌+◌, ◌≤◌, ◌++◌, ◌&&◌, ◌||◌, not, ℕ, List, [], ◌∷◌, length, map, drop, count_by, Bool, true, false, cond, Option, Some, None, option_map, option_and_then, is_some, refl, sym, subst, ◌∙◌, arith, length-append}
 use Rattle.std.specs.Prelude.{nat_lt, nat_le, ◌==◌, codes}
 use Rattle.std.specs.List.{AllByRecursion, list_all}
 use Rattle.std.specs.Option.{option_or}
@@ -23,7 +23,7 @@ use Rattle.script.specs.Limits.{is_opening_within, is_reading, is_bounded, is_wi
 use Rattle.script.specs.Parts.{member_count, count_items, whole_of, range_of}
 use Rattle.script.specs.ScriptDocument.{reading, only_within, reading_within, script_of}
 use Rattle.script.specs.Rules.{Before, at_start, next, command_tests, command_breaks, wrong_kind, wrong_number, is_too_many, needs_live, is_live, is_do, document_tests, Fault, first_broken, fault_at, is_document, is_version_one, opening_breaks, are_sessions, sessions_in, opened_text, place_in_session, value_place}
-use Rattle.script.specs.ScriptValue.{range_value, command_value, session_value, opening_value, script_value, is_built, BreaksNoRule}
+use Rattle.script.specs.ScriptValue.{range_value, command_value, script_value, is_built, BreaksNoRule}
 use Rattle.script.specs.TranscriptDocument.{whole}
 use Rattle.script.proofs.KeyOrder.{IsInKeyOrder}
 use Rattle.script.proofs.Readable.{IsRangeWithin, IsReadable, IsReadableScript, readable_built}

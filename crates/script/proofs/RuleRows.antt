@@ -5,9 +5,9 @@ use Rattle.std.specs.Str.{chars}
 use Rattle.script.specs.declared.refusal.ScriptRule.{ScriptRule}
 use Rattle.script.specs.declared.refusal.ScriptRule.TheVariants.{BadShape, TooMany, UnknownSnapshot, SnapshotTaken, BadNumber, BadEncoding, EmptyNeedle, BadName}
 use Rattle.script.specs.Parts.{range_of}
-use Rattle.script.specs.Rules.{Before, at_start, command_tests, first_broken, Fault, value_place}
+use Rattle.script.specs.Rules.{at_start, command_tests, first_broken, Fault, value_place}
 use Rattle.script.specs.TranscriptDocument.{whole}
-use Rattle.serde_json.specs.Data.{Data, null, boolean, number, string, array, object, negative, Items, no_items, item, Members, no_members, member}
+use Rattle.serde_json.specs.Data.{Data, null, string, array, object, Items, no_items, item, Members, no_members, member}
 
 -- a member in front of others
 abbrev with : List ℕ → Data → Members → Members

@@ -18,7 +18,7 @@ use Rattle.script.specs.ScriptValue.{range_value, command_value, session_value, 
 use Rattle.script.specs.TranscriptDocument.{list_value}
 use Rattle.script.proofs.Counting.{range_in_order}
 use Rattle.script.proofs.Readable.{IsRangeWithin, IsReadable, IsReadableScript}
-use Rattle.serde_json.specs.Data.{Data, array}
+use Rattle.serde_json.specs.Data.{Data}
 use Rattle.serde_json.specs.View.{items_of}
 
 within_le : (limit n : ℕ) → n ≤ limit → within limit n ≡ Some n

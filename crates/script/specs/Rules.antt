@@ -7,7 +7,7 @@ use Rattle.points.specs.Text.{utf16_of}
 use Rattle.points.specs.declared.limits.TheConstants.{MAX_UNITS, MAX_HANDS, MAX_WATCHERS}
 use Rattle.script.specs.declared.limits.TheConstants.{MAX_SESSIONS, MAX_COMMANDS, MAX_READINGS, MAX_SAVES, MAX_FINDS, MAX_NAME, MAX_ID}
 use Rattle.script.specs.declared.refusal.ScriptRule.{ScriptRule}
-use Rattle.script.specs.declared.refusal.ScriptRule.TheVariants.{NotJson, BadShape, TooMany, UnknownSnapshot, SnapshotTaken, BadNumber, BadEncoding, EmptyNeedle, BadName}
+use Rattle.script.specs.declared.refusal.ScriptRule.TheVariants.{BadShape, TooMany, UnknownSnapshot, SnapshotTaken, BadNumber, BadEncoding, EmptyNeedle, BadName}
 use Rattle.script.specs.Parts.{member_count, items_in, count_items, string_in, whole_of, whole_in, is_word, range_of}
 use Rattle.script.specs.Rows.{Kind, Field, Row, how_words, encoding_words, command_rows, read_rows, text_opening, file_opening}
 use Rattle.script.specs.Rows as kind

@@ -8,7 +8,6 @@ use Rattle.machine.specs.declared.command.Opening.TheVariants as opening
 use Rattle.machine.specs.declared.command.Script.{Script}
 use Rattle.script.specs.declared.refusal.ScriptRefusal.{ScriptRefusal}
 use Rattle.script.specs.declared.refusal.ScriptRefusal.TheVariants.{Refused, NoMemory}
-use Rattle.script.specs.declared.refusal.ScriptRule.{ScriptRule}
 use Rattle.script.specs.declared.refusal.ScriptRule.TheVariants.{NotJson, BadShape}
 use Rattle.script.specs.Limits.{is_within}
 use Rattle.script.specs.Parts.{member_count, item_count, string_in, whole_in, is_word, range_in}

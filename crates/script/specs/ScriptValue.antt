@@ -1,5 +1,5 @@
 -- The JSON value of a script, and the scripts that break no rule.
-use Rattle.std.specs.Prelude.{◌≡◌, ℕ, List, [], ◌∷◌, ◌&&◌, ◌==◌, length, codes, Bool, None, is_some}
+use Rattle.std.specs.Prelude.{◌≡◌, ℕ, List, ◌&&◌, ◌==◌, length, codes, Bool, None, is_some}
 use Rattle.std.specs.List.{list_all}
 use Rattle.points.specs.declared.range.Range.{Range}
 use Rattle.machine.specs.declared.command.BatchEdit.{BatchEdit}
