@@ -1,22 +1,19 @@
 -- A history of two sessions, written down: the transcript is lawful, and with a wrong version, reply or text it isn't.
-use Rattle.std.proofs.Common.{◌≡◌, ℕ, List, [], ◌∷◌, true, false, Option, Some, None, refl, arith, inl, inr, ap}
+use Rattle.std.proofs.Common.{ℕ, List, [], ◌∷◌, true, refl, arith}
 use Rattle.std.specs.Char.Utf16.{utf16_chars}
 use Rattle.std.specs.Str.{chars}
 use lib.Utf8.{encode}
 use Rattle.points.specs.declared.point.Point.{Point}
 use Rattle.points.specs.declared.range.Range.{Range}
-use Rattle.points.specs.declared.mark.HitCounts.{HitCounts}
-use Rattle.points.specs.Point.{point_le}
 use Rattle.machine.specs.declared.command.Command.TheVariants as command
 use Rattle.machine.specs.declared.command.Opening.TheVariants as opening
 use Rattle.machine.specs.declared.command.Script.{Script}
 use Rattle.machine.specs.declared.reads.Read.TheVariants as read
 use Rattle.machine.specs.declared.reads.ReadAnswer.TheVariants as answer
-use Rattle.machine.specs.declared.reply.HitNumbers.{HitNumbers}
 use Rattle.machine.specs.declared.reply.Reply.{Reply}
 use Rattle.machine.specs.declared.reply.Reply.TheVariants as reply
 use Rattle.machine.specs.declared.reply.Transcript.{Transcript}
-use Rattle.machine.specs.Machine.{Part, Answer, Edited, edit, step}
+use Rattle.machine.specs.Machine.{Answer, Edited, edit, step}
 use Rattle.machine.specs.Histories.{Event, called, hand, hand_back, IsWritten}
 use Rattle.machine.specs.Lawful.{IsLawful}
 use Rattle.machine.proofs.ManySessions.{history_is_lawful}
