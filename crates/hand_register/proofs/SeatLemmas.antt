@@ -1,5 +1,6 @@
 -- The seats that the register's replies have, and those of a new table.
-use Rattle.std.proofs.Common.{◌≡◌, ℕ, ◌<◌, Bool, true, false, cond, nat_lt, List, [], ◌∷◌, ◌++◌, length, get_or, None, Some, Option, IfSome, refl, sym, ap, ◌∙◌, subst, arith}
+use Rattle.std.proofs.Common.{◌≡◌, ℕ, ◌<◌, Bool, true, false, cond, nat_lt, List, [], ◌∷◌, ◌++◌, length, get_or, None, Some, Option, IfSome, refl, sym, ap, ◌∙◌, subst, arith, length-append}
+use Rattle.std.proofs.Math.ListN.{get_or-append}
 use Rattle.std.proofs.lemmas.Bool.Decides.{nat_tests}
 use Rattle.atomic_table.specs.Seated.{TableId}
 use Rattle.atomic_table.specs.declared.badge.Badge.{Badge}
@@ -38,3 +39,7 @@ hand_at t h k x seen own is legal = let v = seen_hand h.views seen (lowest meani
 -- a hand that a call has just made
 pub hand_made : (t : TableId) (h : Badge (View Told Shown)) (k : ℕ) (start : Shown) (desks : ℕ) (v w : View Told Shown) → h.table_id ≡ t → Took meaning (MayFollow meaning Meets) start desks None (Some (one_view h.views)) (Handed (Some k)) v w → IsHandAt t k h
 hand_made t h k start desks v w own took = hand_at t h k (state_after meaning start (v.seen ++ took.between)) (v.seen ++ took.between) own took.hand_is took.legal
+
+-- the desks before the last ones
+pub are_front : (t : TableId) (ds xs ys : List (Badge (View Told Shown))) → ds ≡ xs ++ ys → AreAt t ds → AreAt t xs
+are_front t ds xs ys is all k d h = let both : AreAt t (xs ++ ys) = subst (AreAt t) is all in let long = length-append xs ys in subst (IsAt t) (get_or-append xs ys d k h) (both k d (omega arith))

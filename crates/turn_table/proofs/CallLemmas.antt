@@ -1,21 +1,19 @@
 -- What the steps of a call add up to.
-use Rattle.std.proofs.Common.{◌≡◌, ℕ, ◌+◌, ◌<◌, ◌⊎◌, Bool, true, false, cond, ◌&&◌, List, [], ◌∷◌, ◌++◌, refl, sym, ap, ◌∙◌, subst, inl, inr, ⊎_elim, arith, None, Some, IfSome, is_some, append_assoc}
+use Rattle.std.proofs.Common.{◌≡◌, ℕ, true, false, cond, ◌&&◌, List, [], ◌∷◌, ◌++◌, refl, sym, ap, ◌∙◌, subst, ⊎_elim, None, Some, IfSome}
 use Rattle.std.specs.Prelude.{Option as Maybe, filter}
 use Rattle.std.proofs.lemmas.List.{append-nil}
 use Rattle.std.proofs.lemmas.List.Elements.{filter-append}
 use mathlib.Core.List.{IsPrefix}
 use Rattle.atomic_table.specs.Table.{Me}
 use Rattle.turn_table.specs.declared.view.Entry.{Entry}
-use Rattle.turn_table.specs.declared.view.Part.{Part}
 use Rattle.turn_table.specs.declared.view.Role.{Role}
-use Rattle.turn_table.specs.declared.view.Role.TheVariants.{Nothing}
 use Rattle.turn_table.specs.declared.view.View.{View}
 use Rattle.turn_table.specs.Meaning.{Meaning, lowest, HasRoom}
 use Rattle.turn_table.specs.History.{entry, state_after, IsLegal, AreCalled}
-use Rattle.turn_table.specs.Views.{view, holding, part, desk, hand, caller, stands_for, added, Mine, Numbered}
-use Rattle.turn_table.specs.Tokens.{IsDesk, stands_by, is_own, mine, Knows}
-use Rattle.turn_table.specs.Turns.{number_by, new_hand, MayDecide}
-use Rattle.turn_table.specs.Steps.{let_go, role_after, decided, joined, longer, shorter, Grabbed, Saw}
+use Rattle.turn_table.specs.Views.{view, holding, hand, caller, stands_for, added, Mine, Numbered}
+use Rattle.turn_table.specs.Tokens.{stands_by, is_own, mine, Knows}
+use Rattle.turn_table.specs.Turns.{number_by, new_hand}
+use Rattle.turn_table.specs.Steps.{let_go, role_after, joined, Grabbed, Saw}
 use Rattle.turn_table.specs.Calls.{MayCall, Began, Played, Took, Looked, Joined}
 use Rattle.turn_table.proofs.HistoryLemmas.{legal_push, called_push}
 use Rattle.turn_table.proofs.MineLemmas.{caller_stands, stands_added, none_between, either_bool}

@@ -1,11 +1,8 @@
 -- The step that makes a call the last entry of the history keeps the rule.
-use Rattle.std.proofs.Common.{◌≡◌, ℕ, zero, suc, ◌+◌, ◌%◌, ◌^◌, ◌<◌, ◌≤◌, ◌≢◌, ◌⊎◌, ◌==◌, eqb, Bool, true, false, cond, not, ◌&&◌, ◌||◌, List, [], ◌∷◌, ◌++◌, length, get_or, set, refl, sym, ap, ◌∙◌, subst, inl, inr, ⊎_elim, arith, None, Some, IfSome, is_some, length-set, get_or-set_same, get_or-set_other}
+use Rattle.std.proofs.Common.{◌≡◌, ℕ, ◌+◌, ◌%◌, ◌<◌, ◌≢◌, ◌⊎◌, ◌==◌, Bool, true, false, cond, not, ◌&&◌, ◌||◌, List, [], ◌∷◌, ◌++◌, get_or, set, refl, sym, ap, ◌∙◌, subst, inl, inr, ⊎_elim, arith, None, Some, IfSome, is_some, length-set, get_or-set_same, get_or-set_other}
 use Rattle.std.specs.Prelude.{Option as Maybe}
-use Rattle.std.proofs.lemmas.Bool.Decides.{nat_tests}
-use mathlib.Core.Logic.{dite}
 use mathlib.Core.List.{IsPrefix}
-use mathlib.Core.Option.{Option, some, none}
-use native.Mathlib.Decide.{ℕ_discrete}
+use mathlib.Core.Option.{some, none}
 use lib.ListN.{get_elem?}
 use Rattle.atomic_table.specs.Table.{State, Me, step, keeps, Allows}
 use Rattle.atomic_table.proofs.Lists.{set_else}
@@ -13,17 +10,16 @@ use Rattle.turn_table.specs.declared.view.Entry.{Entry}
 use Rattle.turn_table.specs.declared.view.Part.{Part}
 use Rattle.turn_table.specs.declared.view.Role.{Role}
 use Rattle.turn_table.specs.declared.view.Role.TheVariants.{Desk, Hand, Deals, Nothing}
-use Rattle.turn_table.specs.declared.view.Holding.{Holding}
 use Rattle.turn_table.specs.declared.view.View.{View}
 use Rattle.turn_table.specs.Meaning.{Meaning, names}
-use Rattle.turn_table.specs.History.{entry, state_after, is_call_of, IsCalled}
-use Rattle.turn_table.specs.Views.{view, holding, hand, first_number, caller, stands_for, has_hand, AreBelow, Mine, added, Numbered, Each, OneSeat}
+use Rattle.turn_table.specs.History.{entry, is_call_of, IsCalled}
+use Rattle.turn_table.specs.Views.{holding, first_number, caller, stands_for, has_hand, AreBelow, Mine, added, Numbered, OneSeat}
 use Rattle.turn_table.specs.Rule.{desks_of, hands_of, History, Desks, Hands, Kept}
 use Rattle.turn_table.specs.Turns.{MayDecide}
 use Rattle.turn_table.specs.Steps.{held_after, role_after, decided, Decides}
 use Rattle.turn_table.proofs.Seats.{here, each_set, each_other, one_set}
 use Rattle.turn_table.proofs.HistoryLemmas.{prefix_self, prefix_nil, prefix_push, state_after-append, legal_push, called_push, counted}
-use Rattle.turn_table.proofs.MineLemmas.{either_bool, itself, same_number, caller_stands, stands_added, numbered_added, mine_added, mine_apart, elsewhere}
+use Rattle.turn_table.proofs.MineLemmas.{either_bool, caller_stands, stands_added, numbered_added, mine_added, mine_apart, elsewhere}
 use Rattle.turn_table.proofs.FrameLemmas.{Holder, held_by}
 
 -- the number that signs is one of the role's

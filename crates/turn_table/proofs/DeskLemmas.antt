@@ -1,5 +1,5 @@
 -- Badges: what holds of the one view of each, before and after a call.
-use Rattle.std.proofs.Common.{◌≡◌, ℕ, ◌+◌, Bool, true, false, cond, List, [], ◌∷◌, ◌++◌, refl, sym, ap, ◌∙◌, subst, None, Some, Ok, Err, IfOk, IfErr, Result}
+use Rattle.std.proofs.Common.{◌≡◌, ℕ, Bool, true, false, cond, List, [], ◌∷◌, ◌++◌, refl, sym, ap, ◌∙◌, subst, None, Some, Ok, Err, IfOk, IfErr, Result}
 use Rattle.std.specs.Prelude.{Option as Maybe}
 use Rattle.turn_table.specs.declared.view.Entry.{Entry}
 use Rattle.turn_table.specs.declared.view.Part.{Part}
@@ -9,7 +9,7 @@ use Rattle.turn_table.specs.Meaning.{Meaning}
 use Rattle.turn_table.specs.History.{entry}
 use Rattle.turn_table.specs.Views.{desk, hand, caller, added, with_call}
 use Rattle.turn_table.specs.Tokens.{IsDesk, IsHand}
-use Rattle.turn_table.specs.Steps.{parts_of, role_after, both_roles}
+use Rattle.turn_table.specs.Steps.{parts_of}
 use Rattle.turn_table.specs.Calls.{Has, Turned, MayCall, Took, Looked, Joined}
 
 module _ {V : Type 0} where

@@ -1,5 +1,5 @@
 -- The parts of the rule when one seat's view changes: the lock, the history, the desk numbers and the hand numbers.
-use Rattle.std.proofs.Common.{◌≡◌, ℕ, zero, suc, ◌+◌, ◌<◌, ◌≤◌, ◌≢◌, ◌⊎◌, Bool, true, false, List, [], ◌∷◌, ◌++◌, length, get_or, set, refl, sym, ap, ◌∙◌, subst, inl, inr, ⊎_elim, arith, None, Some}
+use Rattle.std.proofs.Common.{◌≡◌, ℕ, ◌≢◌, ◌⊎◌, true, List, [], ◌∷◌, ◌++◌, length, get_or, set, sym, ap, ◌∙◌, subst, inl, inr, ⊎_elim, None, Some}
 use Rattle.std.specs.Prelude.{Option as Maybe}
 use mathlib.Core.Logic.{dite}
 use mathlib.Core.List.{IsPrefix}
@@ -12,9 +12,9 @@ use Rattle.turn_table.specs.declared.view.Entry.{Entry}
 use Rattle.turn_table.specs.declared.view.Holding.{Holding}
 use Rattle.turn_table.specs.declared.view.View.{View}
 use Rattle.turn_table.specs.Meaning.{Meaning}
-use Rattle.turn_table.specs.Views.{holding, stands_for, has_hand, Mine, Numbered, Each, OneSeat}
+use Rattle.turn_table.specs.Views.{holding, stands_for, has_hand, Mine, Numbered}
 use Rattle.turn_table.specs.Rule.{desks_of, hands_of, IsFree, IsHeld, Lock, History, Desks, Hands, Kept}
-use Rattle.turn_table.proofs.Seats.{at_push, same_at, here, each_set, each_other, each_push, one_set}
+use Rattle.turn_table.proofs.Seats.{at_push, same_at, here, each_set, each_push, one_set}
 
 -- what a holder knows, taken apart
 abbrev pub same_holding : {S : Type 0} → S → S → Maybe ℕ → Maybe ℕ → Type 0

@@ -1,12 +1,12 @@
 -- Histories that grow, their beginnings, and the calls of one desk number in them.
-use Rattle.std.proofs.Common.{◌≡◌, ℕ, zero, suc, ◌+◌, ◌%◌, ◌<◌, ◌≤◌, Bool, true, false, cond, List, [], ◌∷◌, ◌++◌, length, refl, sym, ap, ◌∙◌, subst, inl, inr, ⊎_elim, arith, append_assoc, length-append, Option, None, Some}
+use Rattle.std.proofs.Common.{◌≡◌, ℕ, ◌+◌, ◌%◌, ◌≤◌, Bool, true, false, cond, List, [], ◌∷◌, ◌++◌, length, refl, sym, ap, ◌∙◌, arith, append_assoc, length-append}
 use Rattle.std.specs.Prelude.{filter}
 use Rattle.std.proofs.lemmas.List.{append-nil}
 use Rattle.std.proofs.lemmas.List.Elements.{filter-append}
 use mathlib.Core.List.{IsPrefix}
 use Rattle.turn_table.specs.declared.view.Entry.{Entry}
-use Rattle.turn_table.specs.Meaning.{Meaning, names}
-use Rattle.turn_table.specs.History.{entry, state_after, is_call_of, calls_under, IsCalled, AreCalled, IsLegal}
+use Rattle.turn_table.specs.Meaning.{Meaning}
+use Rattle.turn_table.specs.History.{state_after, is_call_of, calls_under, IsCalled, AreCalled, IsLegal}
 
 pub prefix_self : {A : Type 0} (xs : List A) → IsPrefix xs xs
 prefix_self xs = ([], append-nil xs)

@@ -1,13 +1,11 @@
 -- What a call that was played on the object leaves to the holder.
-use Rattle.std.proofs.Common.{◌≡◌, ℕ, ◌==◌, Bool, true, false, not, ◌&&◌, ◌||◌, List, [], ◌∷◌, ◌++◌, refl, sym, ap, ◌∙◌, subst, None, Some, Ok, Err, IfSome, IfOk, IfErr, option_map, Result}
+use Rattle.std.proofs.Common.{◌≡◌, ℕ, Bool, true, false, not, ◌&&◌, ◌||◌, [], ◌∷◌, ◌++◌, refl, sym, ap, ◌∙◌, subst, None, Some, Ok, Err, IfSome, IfOk, IfErr, option_map, Result}
 use Rattle.std.specs.Prelude.{Option as Maybe, MatchOption}
-use Rattle.turn_table.specs.declared.view.Role.{Role}
-use Rattle.turn_table.specs.declared.view.Holding.{Holding}
 use Rattle.turn_table.specs.declared.view.View.{View}
 use Rattle.turn_table.specs.Meaning.{Meaning, names, HasRoom}
 use Rattle.turn_table.specs.History.{entry}
-use Rattle.turn_table.specs.Views.{view, holding, hand, caller}
-use Rattle.turn_table.specs.Turns.{maker, new_hand, made_by, made_in, made_of, Outs, MayDecide, IsDecidable, MayLetGo}
+use Rattle.turn_table.specs.Views.{holding, caller}
+use Rattle.turn_table.specs.Turns.{maker, new_hand, made_by, made_in, made_of, Outs, IsDecidable, MayLetGo}
 use Rattle.turn_table.specs.Steps.{decided, held_after, role_after}
 use Rattle.turn_table.specs.Calls.{MayCall, Played}
 use Rattle.turn_table.proofs.MineLemmas.{itself}

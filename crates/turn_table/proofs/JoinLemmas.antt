@@ -1,22 +1,21 @@
 -- The step by which a desk takes in another keeps the rule.
-use Rattle.std.proofs.Common.{◌≡◌, ℕ, zero, suc, ◌+◌, ◌<◌, ◌≤◌, ◌≢◌, ◌⊎◌, Bool, true, false, cond, nat_lt, List, [], ◌∷◌, ◌++◌, length, get_or, set, refl, sym, ap, ◌∙◌, subst, inl, inr, ⊎_elim, arith, None, Some}
+use Rattle.std.proofs.Common.{◌≡◌, ℕ, ◌≤◌, ◌≢◌, Bool, true, false, cond, nat_lt, List, [], ◌∷◌, ◌++◌, length, get_or, set, refl, sym, ap, ◌∙◌, subst, inl, inr, ⊎_elim, arith, None}
 use Rattle.std.specs.Prelude.{Option as Maybe}
 use Rattle.std.proofs.lemmas.Bool.Decides.{nat_tests}
 use mathlib.Core.List.{IsPrefix}
-use mathlib.Core.Option.{Option, some, none}
+use mathlib.Core.Option.{some}
 use lib.ListN.{get_elem?}
 use Rattle.atomic_table.specs.Table.{State, Joins}
 use Rattle.atomic_table.proofs.Lists.{set_else}
-use Rattle.turn_table.specs.declared.view.Entry.{Entry}
 use Rattle.turn_table.specs.declared.view.Part.{Part}
 use Rattle.turn_table.specs.declared.view.View.{View}
 use Rattle.turn_table.specs.Meaning.{Meaning}
 use Rattle.turn_table.specs.History.{is_call_of}
-use Rattle.turn_table.specs.Views.{view, part, desk, has_part, stands_for, has_hand, AreApart, AllMine, Mine, Numbered, Each, OneSeat}
-use Rattle.turn_table.specs.Rule.{desks_of, hands_of, History, Desks, Hands, Kept}
+use Rattle.turn_table.specs.Views.{desk, has_part, stands_for, AreApart, AllMine, Mine, Numbered}
+use Rattle.turn_table.specs.Rule.{desks_of, Desks, Kept}
 use Rattle.turn_table.specs.Steps.{longer, shorter, both_roles, joined, spent}
-use Rattle.turn_table.proofs.Seats.{here, each_set, one_join}
-use Rattle.turn_table.proofs.HistoryLemmas.{prefix_nil, prefix_shorter, prefix_trans, squeezed}
+use Rattle.turn_table.proofs.Seats.{each_set, one_join}
+use Rattle.turn_table.proofs.HistoryLemmas.{prefix_nil, prefix_shorter, squeezed}
 use Rattle.turn_table.proofs.MineLemmas.{either_bool, has_part-append, below_append, apart_append}
 use Rattle.turn_table.proofs.FrameLemmas.{lock_set, history_set, hands_set}
 

@@ -1,27 +1,24 @@
 -- The steps that take the lock, look under it and let it go keep the rule.
-use Rattle.std.proofs.Common.{◌≡◌, ℕ, zero, suc, ◌+◌, ◌<◌, ◌≤◌, ◌≢◌, ◌⊎◌, ◌==◌, eqb, Bool, true, false, List, [], ◌∷◌, ◌++◌, length, get_or, set, refl, sym, ap, ◌∙◌, subst, inl, inr, ⊎_elim, arith, None, Some, IfSome, length-set, get_or-set_same, get_or-set_other, eq-eqb, ne_eqb}
+use Rattle.std.proofs.Common.{◌≡◌, ℕ, eqb, true, false, List, [], ◌∷◌, get_or, set, refl, sym, ap, ◌∙◌, subst, inl, inr, ⊎_elim, arith, None, Some, IfSome, length-set, get_or-set_same, get_or-set_other, eq-eqb, ne_eqb}
 use Rattle.std.specs.Prelude.{Option as Maybe, MatchBool}
-use mathlib.Core.Logic.{dite}
-use mathlib.Core.List.{IsPrefix}
-use mathlib.Core.Option.{Option, some, none}
-use native.Mathlib.Decide.{ℕ_discrete}
+use mathlib.Core.Option.{some, none}
 use lib.ListN.{get_elem?}
 use lib.Seq.{set-get_or}
 use prog.Atomic.{either}
-use Rattle.atomic_table.specs.Table.{State, Me, step, stepped, keeps, takes, gives, put_back, rest, Allows}
+use Rattle.atomic_table.specs.Table.{State, Me, step, keeps, takes, gives, put_back, Allows}
 use Rattle.atomic_table.proofs.Lists.{set_else, set_again}
 use Rattle.turn_table.specs.declared.view.Entry.{Entry}
 use Rattle.turn_table.specs.declared.view.View.{View}
 use Rattle.turn_table.specs.Meaning.{Meaning}
 use Rattle.turn_table.specs.History.{state_after, IsLegal, AreCalled}
-use Rattle.turn_table.specs.Views.{view, holding, Mine, Numbered, Each, OneSeat}
+use Rattle.turn_table.specs.Views.{view, holding, Mine, Numbered}
 use Rattle.turn_table.specs.Rule.{IsFree, IsHeld, Kept}
 use Rattle.turn_table.specs.Tokens.{Knows}
 use Rattle.turn_table.specs.Steps.{let_go, Grabbed, Grabs, Saw, Sees, LetsGo}
 use Rattle.turn_table.proofs.Seats.{here, each_other}
 use Rattle.turn_table.proofs.HistoryLemmas.{prefix_self, prefix_nil}
 use Rattle.turn_table.proofs.MineLemmas.{all_calls}
-use Rattle.turn_table.proofs.FrameLemmas.{lock_set, history_set, desks_set, hands_set, Holder, held_by}
+use Rattle.turn_table.proofs.FrameLemmas.{lock_set, history_set, desks_set, hands_set, held_by}
 
 module _ {T S : Type 0} (m : Meaning T S) (Legal : S → T → Type 0) (start : S) (desks : ℕ) where
   pub knows_of : (w : View T S) → IsLegal m Legal start w.seen → Mine m w.seen w.role → Numbered desks w.role → AreCalled m desks w.seen → Knows m Legal start desks w

@@ -1,21 +1,15 @@
 -- The calls of a role's desk numbers, as the history grows.
-use Rattle.std.proofs.Common.{◌≡◌, ℕ, zero, suc, ◌+◌, ◌<◌, ◌≤◌, ◌≢◌, ◌⊎◌, ◌==◌, eqb, Bool, true, false, cond, ◌&&◌, ◌||◌, List, [], ◌∷◌, ◌++◌, length, refl, sym, ap, ◌∙◌, subst, inl, inr, ⊎_elim, arith, append_assoc, Option, None, Some, eq-eqb}
+use Rattle.std.proofs.Common.{◌≡◌, ℕ, ◌<◌, ◌≢◌, ◌⊎◌, ◌==◌, Bool, true, false, cond, ◌&&◌, ◌||◌, List, [], ◌∷◌, ◌++◌, refl, sym, ap, ◌∙◌, subst, inl, inr, ⊎_elim, arith, Option, None, Some, eq-eqb}
 use Rattle.std.specs.Prelude.{filter}
-use Rattle.std.proofs.lemmas.List.{append-nil}
-use Rattle.std.proofs.lemmas.List.Elements.{filter-append}
 use Rattle.std.proofs.lemmas.Bool.Decides.{nat_tests}
-use mathlib.Core.List.{IsPrefix}
-use mathlib.Core.Logic.{dite}
-use native.Mathlib.Decide.{ℕ_discrete}
 use Rattle.turn_table.specs.declared.view.Entry.{Entry}
 use Rattle.turn_table.specs.declared.view.Part.{Part}
 use Rattle.turn_table.specs.declared.view.Role.{Role}
 use Rattle.turn_table.specs.declared.view.Role.TheVariants.{Desk, Hand, Deals, Nothing}
-use Rattle.turn_table.specs.declared.view.View.{View}
 use Rattle.turn_table.specs.Meaning.{Meaning, names}
-use Rattle.turn_table.specs.History.{entry, is_call_of, calls_under, IsCalled, AreCalled}
-use Rattle.turn_table.specs.Views.{part, desk, is_within, has_part, stands_for, first_number, caller, AreApart, AreBelow, with_call, AllMine, Mine, added, Numbered}
-use Rattle.turn_table.specs.Tokens.{stands_by, is_own, mine, numbered_calls, StandsForAll}
+use Rattle.turn_table.specs.History.{entry, is_call_of, calls_under, AreCalled}
+use Rattle.turn_table.specs.Views.{desk, has_part, stands_for, first_number, caller, AreApart, AreBelow, with_call, AllMine, Mine, added, Numbered}
+use Rattle.turn_table.specs.Tokens.{stands_by, is_own, numbered_calls}
 use Rattle.turn_table.proofs.HistoryLemmas.{calls_other, calls_own, nothing_more}
 
 pub either_bool : (b : Bool) → (b ≡ true) ⊎ (b ≡ false)

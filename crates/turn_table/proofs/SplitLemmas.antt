@@ -1,29 +1,24 @@
 -- The steps that make a seat keep the rule: a hand that is made under the lock, and the desks and hands that a table starts with.
-use Rattle.std.proofs.Common.{◌≡◌, ℕ, zero, suc, ◌+◌, ◌%◌, ◌<◌, ◌≤◌, ◌≢◌, ◌⊎◌, ◌==◌, eqb, Bool, true, false, cond, nat_lt, nat_le, ◌&&◌, ◌||◌, List, [], ◌∷◌, ◌++◌, length, get_or, set, refl, sym, ap, ◌∙◌, subst, inl, inr, ⊎_elim, arith, None, Some}
+use Rattle.std.proofs.Common.{◌≡◌, ℕ, zero, suc, ◌+◌, ◌<◌, ◌≤◌, ◌⊎◌, ◌==◌, Bool, true, false, cond, ◌||◌, List, [], ◌∷◌, length, get_or, set, refl, sym, ap, ◌∙◌, subst, inl, inr, ⊎_elim, arith, None, Some}
 use Rattle.std.specs.Prelude.{Option as Maybe}
 use Rattle.std.proofs.lemmas.Bool.Decides.{nat_tests}
-use mathlib.Core.Logic.{dite}
 use mathlib.Core.List.{IsPrefix}
-use mathlib.Core.Option.{Option, some, none}
-use native.Mathlib.Decide.{ℕ_discrete}
+use mathlib.Core.Option.{some}
 use lib.ListN.{get_elem?}
 use Rattle.atomic_table.specs.Table.{State, Splits, opening}
 use Rattle.atomic_table.proofs.Lists.{set_else, at_longer}
 use Rattle.turn_table.specs.declared.view.Entry.{Entry}
-use Rattle.turn_table.specs.declared.view.Role.{Role}
-use Rattle.turn_table.specs.declared.view.Role.TheVariants.{Desk, Hand, Deals, Nothing}
-use Rattle.turn_table.specs.declared.view.Holding.{Holding}
 use Rattle.turn_table.specs.declared.view.View.{View}
-use Rattle.turn_table.specs.Meaning.{Meaning, names, first_free, lowest, HasRoom}
+use Rattle.turn_table.specs.Meaning.{Meaning, first_free, lowest, HasRoom}
 use Rattle.points.specs.declared.limits.TheConstants.{MAX_HANDS}
-use Rattle.turn_table.specs.Views.{view, holding, part, desk, hand, deals, is_within, has_part, stands_for, has_hand, AreApart, AllMine, Mine, Numbered, Each, OneSeat}
-use Rattle.turn_table.specs.Rule.{desks_of, hands_of, History, Desks, Hands, Kept, first_view}
+use Rattle.turn_table.specs.Views.{view, holding, part, desk, hand, deals, is_within, stands_for, has_hand, Mine, Numbered, OneSeat}
+use Rattle.turn_table.specs.Rule.{desks_of, hands_of, Kept, first_view}
 use Rattle.turn_table.specs.Turns.{made_by, number_by, maker, new_hand}
-use Rattle.turn_table.specs.Steps.{dealt_desk, less_desk, dealt_hand, less_hand, deal_desk, after_desk, deal_hand, after_hand}
-use Rattle.turn_table.proofs.Seats.{at_push, here, each_set, each_other, each_push, each_one, one_set, one_push, one_split}
-use Rattle.turn_table.proofs.HistoryLemmas.{prefix_self, prefix_nil}
-use Rattle.turn_table.proofs.MineLemmas.{either_bool, itself, same_number}
-use Rattle.turn_table.proofs.FrameLemmas.{lock_set, lock_push, history_set, history_push, desks_set, hands_set, Holder, held_by}
+use Rattle.turn_table.specs.Steps.{deal_desk, after_desk, deal_hand, after_hand}
+use Rattle.turn_table.proofs.Seats.{at_push, here, each_set, each_push, each_one, one_push, one_split}
+use Rattle.turn_table.proofs.HistoryLemmas.{prefix_nil}
+use Rattle.turn_table.proofs.MineLemmas.{same_number}
+use Rattle.turn_table.proofs.FrameLemmas.{lock_set, lock_push, history_set, history_push, desks_set, hands_set, held_by}
 
 -- the first number that isn't taken isn't, where it is one of those that were tried
 first_is_free : (taken : ℕ → Bool) (k n : ℕ) → first_free taken k n < n + k → taken (first_free taken k n) ≡ false

@@ -1,14 +1,12 @@
 -- What the calls of a table do to the seat that calls.
-use Rattle.std.specs.Prelude.{◌≡◌, ℕ, ◌≢◌, ◌<◌, Bool, true, false, cond, List, [], ◌∷◌, ◌++◌, Option as Maybe, None, Some, IfSome}
+use Rattle.std.specs.Prelude.{◌≡◌, ℕ, true, cond, List, [], ◌∷◌, ◌++◌, Option as Maybe, None, Some, IfSome}
 use mathlib.Core.List.{IsPrefix}
-use Rattle.atomic_table.specs.Table.{Me}
 use Rattle.turn_table.specs.declared.view.Entry.{Entry}
-use Rattle.turn_table.specs.declared.view.Part.{Part}
 use Rattle.turn_table.specs.declared.view.Role.{Role}
 use Rattle.turn_table.specs.declared.view.View.{View}
 use Rattle.turn_table.specs.Meaning.{Meaning, lowest, HasRoom}
 use Rattle.turn_table.specs.History.{entry, state_after}
-use Rattle.turn_table.specs.Views.{view, holding, part, desk, hand, caller, Mine}
+use Rattle.turn_table.specs.Views.{view, holding, desk, hand, caller, Mine}
 use Rattle.turn_table.specs.Tokens.{mine, Knows}
 use Rattle.turn_table.specs.Turns.{new_hand}
 use Rattle.turn_table.specs.Steps.{role_after, parts_of}

@@ -1,5 +1,5 @@
 -- Histories: lists of entries, which are legal from an opening state.
-use Rattle.std.specs.Prelude.{◌≡◌, ℕ, ◌<◌, ◌==◌, Bool, true, false, cond, ◌&&◌, List, [], ◌∷◌, ◌++◌, length, filter, Option, None, Some}
+use Rattle.std.specs.Prelude.{◌≡◌, ℕ, ◌<◌, Bool, true, ◌&&◌, List, [], ◌∷◌, filter, Option, Some}
 use Rattle.turn_table.specs.declared.view.Entry.{Entry}
 use Rattle.turn_table.specs.Meaning.{Meaning, names}
 

@@ -1,5 +1,5 @@
 -- What an object means as plain data: T is an entry, a call with its reply, and S is a state.
-use Rattle.std.specs.Prelude.{◌≡◌, ℕ, zero, suc, ◌+◌, ◌<◌, ◌==◌, Bool, true, false, cond, Option, None, Some, MatchOption}
+use Rattle.std.specs.Prelude.{◌≡◌, ℕ, zero, suc, ◌+◌, ◌<◌, ◌==◌, Bool, false, cond, Option, None, Some, MatchOption}
 use Rattle.points.specs.declared.limits.TheConstants.{MAX_HANDS}
 
 pub record Meaning (T S : Type 0) : Type 0 where

@@ -1,12 +1,11 @@
 -- The rule of a table: what its words, its slot and its seats' views are between any two steps.
 -- There is one legal history, the log, and one state, now, which is that behind the log. Words 0 and 1 are the lock and the tally.
-use Rattle.std.specs.Prelude.{◌≡◌, ℕ, ◌+◌, ◌<◌, ◌≤◌, ◌%◌, ◌^◌, ◌≢◌, ◌⊎◌, Bool, true, false, List, [], ◌∷◌, ◌++◌, length, slice_index, Option as Maybe, None, Some}
+use Rattle.std.specs.Prelude.{◌≡◌, ℕ, ◌%◌, ◌^◌, ◌≢◌, ◌⊎◌, Bool, true, List, [], ◌∷◌, length, slice_index, Option as Maybe, None, Some}
 use mathlib.Core.Option.{Option, none, some}
 use mathlib.Core.List.{IsPrefix}
 use lib.ListN.{get_elem?}
 use Rattle.atomic_table.specs.Table.{State}
 use Rattle.turn_table.specs.declared.view.Entry.{Entry}
-use Rattle.turn_table.specs.declared.view.Holding.{Holding}
 use Rattle.turn_table.specs.declared.view.View.{View}
 use Rattle.turn_table.specs.Meaning.{Meaning}
 use Rattle.turn_table.specs.History.{state_after, IsLegal, AreCalled}

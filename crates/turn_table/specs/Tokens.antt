@@ -1,5 +1,5 @@
 -- What a desk or a hand carries: the beginning of the history that it has seen, and its own calls in it.
-use Rattle.std.specs.Prelude.{◌≡◌, ℕ, ◌<◌, Bool, true, false, cond, ◌&&◌, List, [], ◌∷◌, ◌++◌, filter, Option, None, Some}
+use Rattle.std.specs.Prelude.{◌≡◌, ℕ, ◌<◌, Bool, true, false, ◌&&◌, List, ◌∷◌, filter, Option, None, Some}
 use Rattle.turn_table.specs.declared.view.Entry.{Entry}
 use Rattle.turn_table.specs.declared.view.Part.{Part}
 use Rattle.turn_table.specs.declared.view.Role.{Role}

@@ -1,5 +1,5 @@
 -- What a call under the lock can do beside its own work: make a hand.
-use Rattle.std.specs.Prelude.{◌≡◌, ℕ, ◌&&◌, ◌||◌, not, Bool, true, List, [], ◌∷◌, Option, None, Some, MatchOption}
+use Rattle.std.specs.Prelude.{◌≡◌, ℕ, ◌&&◌, ◌||◌, not, true, List, Option, None, Some}
 use Rattle.atomic_table.specs.Seated.{TableId}
 use Rattle.turn_table.specs.declared.view.Holding.{Holding}
 use Rattle.turn_table.specs.declared.view.View.{View}

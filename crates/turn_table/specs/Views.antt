@@ -1,19 +1,15 @@
 -- What seats know, and what a list of views keeps.
-use Rattle.std.specs.Prelude.{◌≡◌, ℕ, ◌+◌, ◌<◌, ◌≤◌, ◌==◌, ◌≢◌, Bool, true, false, cond, ◌&&◌, ◌||◌, not, nat_lt, nat_le, List, [], ◌∷◌, ◌++◌, length, Option, None, Some}
+use Rattle.std.specs.Prelude.{◌≡◌, ℕ, ◌<◌, ◌≤◌, ◌==◌, Bool, true, false, cond, ◌&&◌, ◌||◌, nat_lt, nat_le, List, [], ◌∷◌, ◌++◌, Option, None, Some}
 use mathlib.Core.Option.{some}
-use mathlib.Core.List.{IsPrefix}
 use lib.ListN.{get_elem?}
 use Rattle.turn_table.specs.declared.view.Entry.{Entry}
 use Rattle.turn_table.specs.declared.view.Part.{Part}
-use Rattle.turn_table.specs.declared.view.DeskRole.{DeskRole}
-use Rattle.turn_table.specs.declared.view.HandRole.{HandRole}
-use Rattle.turn_table.specs.declared.view.Dealer.{Dealer}
 use Rattle.turn_table.specs.declared.view.Role.{Role}
 use Rattle.turn_table.specs.declared.view.Role.TheVariants.{Desk, Hand, Deals, Nothing}
 use Rattle.turn_table.specs.declared.view.Holding.{Holding}
 use Rattle.turn_table.specs.declared.view.View.{View}
-use Rattle.turn_table.specs.Meaning.{Meaning, names, lowest}
-use Rattle.turn_table.specs.History.{entry, calls_under}
+use Rattle.turn_table.specs.Meaning.{Meaning}
+use Rattle.turn_table.specs.History.{calls_under}
 
 module _ {T S : Type 0} where
   abbrev pub view : List (Entry T) → Role T → Option (Holding S) → View T S

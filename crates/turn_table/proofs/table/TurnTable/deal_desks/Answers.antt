@@ -1,4 +1,4 @@
-use Rattle.std.proofs.Common.{rules, ap, ◌<◌, arith}
+use Rattle.std.proofs.Common.{rules, ap, ◌<◌}
 use Rattle.turn_table.proofs.SplitLemmas.{deals_desk_as}
 use Rattle.turn_table.proofs.table.TurnTable.deal_desks.Goals as goal
 

@@ -1,4 +1,4 @@
-use Rattle.std.proofs.Common.{rules, ap, ◌<◌, arith}
+use Rattle.std.proofs.Common.{rules, ap, ◌<◌}
 use Rattle.turn_table.proofs.SplitLemmas.{deals_hand_as}
 use Rattle.turn_table.proofs.table.TurnTable.deal_hands.Goals as goal
 

@@ -1,4 +1,4 @@
-use Rattle.std.proofs.Common.{rules, ℕ, Option, Some, List, [], ◌∷◌, ◌++◌, refl, sym, ap, ◌∙◌, subst}
+use Rattle.std.proofs.Common.{Option, Some, List, [], ◌∷◌, ◌++◌, refl, sym, ap, ◌∙◌, subst}
 use Rattle.atomic_table.specs.Table.{opening}
 use Rattle.turn_table.specs.Meaning.{MayFollow}
 use Rattle.turn_table.specs.Rule.{Kept, first_view}

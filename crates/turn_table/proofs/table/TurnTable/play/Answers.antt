@@ -1,4 +1,4 @@
-use Rattle.std.proofs.Common.{rules, refl, sym, ap, ◌∙◌, subst, ◌≡◌, Some}
+use Rattle.std.proofs.Common.{refl, sym, ap, ◌∙◌, subst, Some}
 use Rattle.turn_table.specs.Meaning.{MayFollow}
 use Rattle.turn_table.specs.Turns.{IsDecidable}
 use Rattle.turn_table.specs.Steps.{decided}

@@ -1,7 +1,6 @@
-use Rattle.std.proofs.Common.{rules, refl, sym, ap, ◌∙◌, ◌≡◌}
+use Rattle.std.proofs.Common.{ap, ◌∙◌, ◌≡◌}
 use Rattle.turn_table.specs.Meaning.{MayFollow}
 use Rattle.turn_table.specs.Steps.{let_go}
-use Rattle.turn_table.specs.Calls.{Played}
 use Rattle.turn_table.proofs.HoldLemmas.{if_ok, if_err}
 use Rattle.turn_table.proofs.CallLemmas.{took_played, looked}
 use Rattle.turn_table.proofs.table.TurnTable.turn.Goals as goal
