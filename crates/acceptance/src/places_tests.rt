@@ -1,5 +1,5 @@
 //! A table of places: what is freed and kept, and that there is always room.
-use places::{MAX_DEPTH, PLACES, Table};
+use places::{MAX_DEPTH, PLACES, Table, places_are_sound};
 use points::MAX_HANDS;
 use std::alloc::Global;
 use std::test::Fail;
@@ -87,5 +87,6 @@ fn room_never_ends(rt: HostRuntime) -> Result<(), Fail> {
         table.collect();
         assert!(rt; table.free() >= 8, "{turn}");
     }
+    places_are_sound(&table);
     Ok(())
 }
