@@ -15,6 +15,6 @@ loop-at-preserved g c =
     let here : c.loop-at.at - 1 < length (others_of c.args.entries.now) = omega (arith, length-take (length c.args.entries.now - 1) c.args.entries.now) in
     record {
       within = omega arith;
-      seen = rw c.loop-at.invariant.seen (hands_more c.loop-at.at (c.loop-at.at - 1) (others_of c.args.entries.now) (top_alone c.args.entries.now) c.loop-at.entries c.index-entries-at.result (omega arith) here c.loop-at.invariant.list);
-      list = rw c.loop-at.invariant.seen (narrowed_more c.loop-at.at (c.loop-at.at - 1) (others_of c.args.entries.now) (top_alone c.args.entries.now) c.loop-at.entries c.index-entries-at.result (omega arith) here c.loop-at.invariant.list);
+      seen = rw c.loop-at.invariant.seen (hands_more c.loop-at.at (c.loop-at.at - 1) (others_of c.args.entries.now) (top_alone c.args.entries.now) c.loop-at.entries _ (omega arith) here c.loop-at.invariant.list);
+      list = rw c.loop-at.invariant.seen (narrowed_more c.loop-at.at (c.loop-at.at - 1) (others_of c.args.entries.now) (top_alone c.args.entries.now) c.loop-at.entries _ (omega arith) here c.loop-at.invariant.list);
     }
