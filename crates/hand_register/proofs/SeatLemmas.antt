@@ -1,5 +1,5 @@
 -- The seats that the register's replies have, and those of a new table.
-use Rattle.std.proofs.Common.{◌≡◌, ℕ, ◌<◌, Bool, true, false, cond, nat_lt, List, [], ◌∷◌, ◌++◌, length, get_or, None, Some, Option, IfSome, refl, sym, ap, ◌∙◌, subst, arith, length-append}
+use Rattle.std.proofs.Common.{◌≡◌, ℕ, ◌<◌, true, cond, nat_lt, List, [], ◌∷◌, ◌++◌, None, Some, refl, ap, subst, arith, length-append}
 use Rattle.std.proofs.Math.ListN.{get_or-append}
 use Rattle.std.proofs.lemmas.Bool.Decides.{nat_tests}
 use Rattle.atomic_table.specs.Seated.{TableId}
@@ -10,7 +10,7 @@ use Rattle.turn_table.specs.Meaning.{MayFollow, lowest, HasRoom}
 use Rattle.turn_table.specs.Views.{view, part, hand}
 use Rattle.turn_table.specs.Openings.{AreDealt, new_desk}
 use Rattle.turn_table.specs.History.{state_after}
-use Rattle.turn_table.specs.Tokens.{IsDesk, IsHand}
+use Rattle.turn_table.specs.Tokens.{IsHand}
 use Rattle.turn_table.specs.Calls.{Took}
 use Rattle.hand_register.specs.declared.register.Told.{Told}
 use Rattle.hand_register.specs.declared.register.Told.TheVariants.{Handed}

@@ -1,7 +1,6 @@
 -- What the register means: its calls, and what they make of its state.
-use Rattle.std.specs.Prelude.{◌≡◌, ℕ, ◌+◌, ◌-◌, ◌≤◌, ◌<◌, min, Bool, true, false, cond, nat_lt, List, [], ◌∷◌, slice_index_or, slice_set, Option, None, Some, MatchOption, ⊤}
+use Rattle.std.specs.Prelude.{◌≡◌, ℕ, ◌+◌, ◌≤◌, min, Bool, true, false, cond, nat_lt, List, [], ◌∷◌, slice_index_or, slice_set, Option, None, Some, MatchOption, ⊤}
 use Rattle.atomic_table.specs.Seated.{TableId}
-use Rattle.atomic_table.specs.declared.badge.Badge.{Badge}
 use Rattle.points.specs.declared.limits.TheConstants.{MAX_HANDS}
 use Rattle.turn_table.specs.declared.view.View.{View}
 use Rattle.turn_table.specs.Meaning.{Meaning, first_free, HasRoom}

@@ -1,4 +1,4 @@
-use Rattle.std.proofs.Common.{rules, ◌<◌, length, refl, arith}
+use Rattle.std.proofs.Common.{rules, ◌<◌, length, refl}
 use Rattle.hand_register.proofs.FreeLemmas.{none_out, one_out}
 use Rattle.hand_register.proofs.register.Register.new.Goals as goal
 
