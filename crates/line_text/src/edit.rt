@@ -69,11 +69,10 @@ impl LineText {
         ensures err { OnErr result (self.new ≡ self.old) }
         ensures well_formed { IsWellFormed self.old → OnOk result (IsWellFormed self.new) }
     {
-        let rows = self.rows_kept();
-        let (from, to) = rows.span(range);
-        let start = rows.clip(range.start);
-        let end = rows.clip(range.end);
-        let room = MAX_UNITS - (rows.units.len() - (to - from));
+        let (from, to) = self.span(range);
+        let start = self.clip(range.start);
+        let end = self.clip(range.end);
+        let room = MAX_UNITS - (self.len() - (to - from));
         let Some(size) = size_within(text, room) else {
             return Err(TextRefusal::TooLong);
         };

@@ -4,6 +4,7 @@ ghost use Rattle.points.specs.Place.{extent, point_at, offset_of, line_of, clip,
 ghost use Rattle.line_text.specs.Ending.{ending_of};
 
 use crate::ending::Ending;
+use crate::rows::{clipped_column, ends_with_cr};
 use crate::text::LineText;
 use points::{Point, Range};
 
@@ -12,7 +13,7 @@ impl LineText {
     pub fn extent(&self) -> Point
         ensures { result ≡ extent self.now }
     {
-        self.rows_kept().extent()
+        self.point_at(self.len())
     }
 
     /// How many rows there are: one more than line feeds.
@@ -40,10 +41,16 @@ impl LineText {
         ensures ending { IfSome result (λ ending. ending ≡ ending_of self.now row) }
     {
         let rows = self.rows_kept();
-        if row as usize > rows.last() {
-            return None;
+        let row = row as usize;
+        if row > rows.last() {
+            None
+        } else if row == rows.last() {
+            Some(Ending::Last)
+        } else if ends_with_cr(rows.row(row)) {
+            Some(Ending::CrLf)
+        } else {
+            Some(Ending::Lf)
         }
-        Some(rows.ending(row as usize))
     }
 
     /// The point at an offset.
@@ -51,14 +58,30 @@ impl LineText {
         requires { offset ≤ length self.now }
         ensures { result ≡ point_at self.now offset }
     {
-        self.rows_kept().point_at(offset)
+        let rows = self.rows_kept();
+        let row = rows.row_at(offset);
+        let column = offset - rows.start(row);
+        Point {
+            row: row as u32,
+            column: column as u32,
+        }
     }
 
     /// The offset at which the point is `point`, where there is one.
     pub fn offset_of(&self, point: Point) -> Option<usize>
         ensures { result ≡ offset_of self.now point }
     {
-        self.rows_kept().offset_of(point)
+        let rows = self.rows_kept();
+        let row = point.row as usize;
+        if row > rows.last() {
+            return None;
+        }
+        let start = rows.start(row);
+        let column = point.column as usize;
+        if column > rows.end(row) - start {
+            return None;
+        }
+        Some(start + column)
     }
 
     /// The point that `point` is clipped to. A row past the last goes to the end of the text; a
@@ -67,7 +90,16 @@ impl LineText {
     pub fn clip(&self, point: Point) -> Point
         ensures { result ≡ clip self.now point }
     {
-        self.rows_kept().clip(point)
+        let rows = self.rows_kept();
+        let row = point.row as usize;
+        if row > rows.last() {
+            return self.extent();
+        }
+        let line = rows.line(row);
+        Point {
+            row: point.row,
+            column: clipped_column(line, point.column as usize) as u32,
+        }
     }
 
     /// The offsets of the clipped ends of a range.
@@ -77,6 +109,21 @@ impl LineText {
         ensures order { result.0 ≤ result.1 }
         ensures within { result.1 ≤ length self.now }
     {
-        self.rows_kept().span(range)
+        (
+            self.clipped_offset(range.start),
+            self.clipped_offset(range.end),
+        )
+    }
+
+    // The offset of the point that `point` is clipped to.
+    fn clipped_offset(&self, point: Point) -> usize
+        ensures { result ≡ clipped_offset self.now point }
+    {
+        let rows = self.rows_kept();
+        let row = point.row as usize;
+        if row > rows.last() {
+            return rows.units.len();
+        }
+        rows.start(row) + clipped_column(rows.line(row), point.column as usize)
     }
 }

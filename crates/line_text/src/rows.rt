@@ -1,18 +1,16 @@
-//! Look-ups in a text: its units, and beside them the offsets at which its rows start.
+//! The rows of a text: its units, and beside them the offsets at which its rows start. Here stand the
+//! steps that look-ups share.
 //!
 //! An offset finds its row by halving the list of starts; a row's units lie between its start and
 //! the next one. The first row starts at 0, so the list leaves it out.
-ghost use Rattle.std.specs.Prelude.{◌≡◌, ℕ, ◌+◌, ◌-◌, ◌<◌, ◌≤◌, ◌^◌, length, take, count_by, Option, if◌then◌else◌};
+ghost use Rattle.std.specs.Prelude.{◌≡◌, ◌+◌, ◌-◌, ◌≤◌, length, take, count_by, if◌then◌else◌};
 ghost use Rattle.std.specs.Char.Utf16.{is_high_surrogate, is_low_surrogate};
 ghost use Rattle.points.specs.Text.{is_lf};
-ghost use Rattle.points.specs.Place.{extent, point_at, offset_of, row_of, row_start, ends_with_cr, line_of};
-ghost use Rattle.points.specs.Place.{splits_pair, clipped_column, clip, clipped_offset};
+ghost use Rattle.points.specs.Place.{row_of, row_start, ends_with_cr, line_of, splits_pair, clipped_column};
 ghost use Rattle.points.specs.declared.limits.TheConstants.{MAX_UNITS};
-ghost use Rattle.line_text.specs.Ending.{ending_of};
 ghost use Rattle.line_text.specs.Starts.{starts_of};
 
-use crate::ending::{CARRIAGE_RETURN, Ending};
-use points::{Point, Range};
+use crate::ending::CARRIAGE_RETURN;
 
 /// The units of a text and the starts of its rows, lent.
 #[derive(Clone, Copy)]
@@ -65,40 +63,13 @@ impl<'a> Rows<'a> {
         }
     }
 
-    /// The point at `offset`.
-    pub(crate) fn point_at(self, offset: usize) -> Point
-        requires { offset ≤ length self.units.now }
-        ensures { result ≡ point_at self.entry.units.now offset }
+    /// The units of `row`, with a carriage return of its ending.
+    pub(crate) fn row(self, row: usize) -> &'a [u16]
+        requires { row ≤ count_by is_lf self.units.now }
+        ensures { result.now ≡ row_of self.entry.units.now row }
     {
-        let row = self.row_at(offset);
-        let column = offset - self.start(row);
-        Point {
-            row: row as u32,
-            column: column as u32,
-        }
-    }
-
-    /// The end of the text.
-    pub(crate) fn extent(self) -> Point
-        ensures { result ≡ extent self.entry.units.now }
-    {
-        self.point_at(self.units.len())
-    }
-
-    /// The offset at which the point is `point`, where there is one.
-    pub(crate) fn offset_of(self, point: Point) -> Option<usize>
-        ensures { result ≡ offset_of self.entry.units.now point }
-    {
-        let row = point.row as usize;
-        if row > self.last() {
-            return None;
-        }
-        let start = self.start(row);
-        let column = point.column as usize;
-        if column > self.end(row) - start {
-            return None;
-        }
-        Some(start + column)
+        let units = self.units;
+        &units[self.start(row)..self.end(row)]
     }
 
     /// The units of `row` without its ending.
@@ -113,68 +84,6 @@ impl<'a> Rows<'a> {
             units
         }
     }
-
-    /// How `row` ends.
-    pub(crate) fn ending(self, row: usize) -> Ending
-        requires { row ≤ count_by is_lf self.units.now }
-        ensures { result ≡ ending_of self.entry.units.now row }
-    {
-        if row == self.last() {
-            Ending::Last
-        } else if ends_with_cr(self.row(row)) {
-            Ending::CrLf
-        } else {
-            Ending::Lf
-        }
-    }
-
-    // The units of `row`, with a carriage return of its ending.
-    fn row(self, row: usize) -> &'a [u16]
-        requires { row ≤ count_by is_lf self.units.now }
-        ensures { result.now ≡ row_of self.entry.units.now row }
-    {
-        let units = self.units;
-        &units[self.start(row)..self.end(row)]
-    }
-
-    /// The point that `point` is clipped to.
-    pub(crate) fn clip(self, point: Point) -> Point
-        ensures { result ≡ clip self.entry.units.now point }
-    {
-        let row = point.row as usize;
-        if row > self.last() {
-            return self.extent();
-        }
-        let line = self.line(row);
-        Point {
-            row: point.row,
-            column: clipped_column(line, point.column as usize) as u32,
-        }
-    }
-
-    /// The offset of the point that `point` is clipped to.
-    pub(crate) fn clipped_offset(self, point: Point) -> usize
-        ensures { result ≡ clipped_offset self.entry.units.now point }
-    {
-        let row = point.row as usize;
-        if row > self.last() {
-            return self.units.len();
-        }
-        self.start(row) + clipped_column(self.line(row), point.column as usize)
-    }
-
-    /// The offsets of the clipped ends of `range`.
-    pub(crate) fn span(self, range: Range) -> (usize, usize)
-        ensures from { result.0 ≡ clipped_offset self.entry.units.now range.start }
-        ensures to { result.1 ≡ clipped_offset self.entry.units.now range.end }
-        ensures order { result.0 ≤ result.1 }
-        ensures within { result.1 ≤ length self.entry.units.now }
-    {
-        (
-            self.clipped_offset(range.start),
-            self.clipped_offset(range.end),
-        )
-    }
 }
 
 // A row's units without a carriage return at their end.
@@ -187,15 +96,15 @@ fn without_cr(units: &[u16]) -> &[u16]
     }
 }
 
-// Whether a carriage return stands at the end of these units.
-fn ends_with_cr(units: &[u16]) -> bool
+/// Whether a carriage return stands at the end of these units.
+pub(crate) fn ends_with_cr(units: &[u16]) -> bool
     ensures { result ≡ ends_with_cr units.now }
 {
     matches!(units, [.., CARRIAGE_RETURN])
 }
 
-// The column of a line that `column` is clipped to: within the line, and outside a pair.
-fn clipped_column(line: &[u16], column: usize) -> usize
+/// The column of a line that `column` is clipped to: within the line, and outside a pair.
+pub(crate) fn clipped_column(line: &[u16], column: usize) -> usize
     ensures { result ≡ clipped_column line.now column }
 {
     let column = column.min(line.len());

@@ -1,4 +1,4 @@
-use Rattle.std.proofs.Common.{◌∙◌, ◌+◌, ◌-◌, ◌≡◌, ℕ, List, length, map, ◌++◌, sym, ap, arith}
+use Rattle.std.proofs.Common.{◌∙◌, ◌+◌, ◌-◌, ℕ, List, map, ◌++◌, sym, ap, arith}
 use Rattle.line_text.specs.Starts.{starts_of}
 use Rattle.line_text.proofs.PartLemmas.{part_can_move, appended_starts}
 use Rattle.line_text.proofs.parts.append_units.Goals as goal

@@ -1,4 +1,4 @@
-use Rattle.std.proofs.Common.{◌≡◌, ◌≤◌, ℕ, List, length, ap, arith}
+use Rattle.std.proofs.Common.{◌≤◌, length, ap, arith}
 use Rattle.points.specs.declared.limits.TheConstants.{MAX_UNITS}
 use Rattle.line_text.proofs.PartLemmas.{part_starts, part_within}
 use Rattle.line_text.proofs.text.LineText.part.Goals as goal

@@ -1,10 +1,10 @@
 use Rattle.std.proofs.Common.{arith}
 use Rattle.points.proofs.ClipLemmas.{clipped_offset_mono, clipped_at}
-use Rattle.line_text.proofs.rows.Rows.span.Goals as goal
+use Rattle.line_text.proofs.text.LineText.span.Goals as goal
 
 pub returns-clause-order : goal.returns-clause-order
-returns-clause-order c = let t = c.args.self.units.now in
+returns-clause-order c = let t = c.args.self.now in
     omega (arith, c.clipped_offset.ensures, c.clipped_offset-2.ensures, clipped_offset_mono t c.args.range.start c.args.range.end c.args.range.ordered)
 
 pub returns-clause-within : goal.returns-clause-within
-returns-clause-within c = omega (arith, c.clipped_offset-2.ensures, (clipped_at c.args.self.units.now c.args.range.end).within)
+returns-clause-within c = omega (arith, c.clipped_offset-2.ensures, (clipped_at c.args.self.now c.args.range.end).within)
