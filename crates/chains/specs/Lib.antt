@@ -1,0 +1,4 @@
+pub mod Layered
+pub mod Overlay
+pub mod Stand
+pub mod Spots
