@@ -4,3 +4,4 @@ pub mod StandLemmas
 pub mod RetagLemmas
 pub mod StandParts
 pub mod StretchLemmas
+pub mod SpotLemmas

@@ -2,3 +2,4 @@ pub mod Layered
 pub mod Overlay
 pub mod Stand
 pub mod Spots
+pub mod LeadsDown

@@ -10,6 +10,7 @@
 
 mod chain;
 mod held;
+mod lookup;
 mod overlay;
 mod pieces;
 mod size;
