@@ -5,3 +5,4 @@ pub mod RetagLemmas
 pub mod StandParts
 pub mod StretchLemmas
 pub mod SpotLemmas
+pub mod WalkLemmas

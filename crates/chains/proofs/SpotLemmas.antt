@@ -24,7 +24,7 @@ use Rattle.chains.proofs.CutLemmas.{puts-append}
 use Rattle.chains.proofs.StandParts.{blank_spot, new-append, starts_at, old_before, new_before, kept_to_cut, kept_to_end}
 use Rattle.chains.proofs.StretchLemmas.{laid_newest}
 
-abbrev spot_with : ℕ → Point → Spot
+abbrev pub spot_with : ℕ → Point → Spot
 spot_with n p = record { offset = n; point = p }
 
 same_spot : (a b : ℕ) (p q : Point) → a ≡ b → p ≡ q → spot_with a p ≡ spot_with b q

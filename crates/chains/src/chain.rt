@@ -1,10 +1,10 @@
 //! A base with the layers above it, shared.
-ghost use Rattle.std.specs.Prelude.{◌≡◌, ◌+◌, ◌≤◌, ◌<◌, [], ◌++◌, length, slice_range, string_bytes, IfOk, OnOk, OnErr};
+ghost use Rattle.std.specs.Prelude.{◌≡◌, ℕ, ◌+◌, ◌≤◌, ◌<◌, [], ◌++◌, length, slice_range, string_bytes, IfOk, OnOk, OnErr};
 ghost use Rattle.points.specs.Text.{text_of};
 ghost use Rattle.points.specs.declared.limits.TheConstants.{MAX_UNITS};
 
 use crate::held::{Held, end_above, layers_in, share};
-use crate::lookup::spot_above;
+use crate::lookup::{spot_above, spot_of};
 use crate::pieces::Pieces;
 use crate::spot::Spot;
 use crate::stretch::{Stretch, stretch_at};
@@ -40,6 +40,7 @@ impl Chain {
     ghost use Rattle.chains.specs.Overlay.{end_of};
     ghost use Rattle.chains.specs.Spots.{spot_in};
     ghost use Rattle.chains.specs.Stand.{tags_at};
+    ghost use Rattle.points.specs.MarkText.{IsPointOf};
     ghost use Rattle.points.specs.Place.{point_at};
 
     /// A text with no layer above it.
@@ -128,6 +129,14 @@ impl Chain {
         ensures { result ≡ point_at (whole_text self.now) offset }
     {
         self.spot_at(offset).point
+    }
+
+    /// The place at a point that the text has.
+    pub fn spot_of(&self, point: Point) -> Spot
+        requires { IsPointOf (whole_text self.now) point }
+        ensures { (i : ℕ) → i ≤ length (whole_text self.now) → point_at (whole_text self.now) i ≡ point → result ≡ spot_in (whole_text self.now) i }
+    {
+        spot_of(&self.base, self.above.as_slice(), point)
     }
 
     /// The units from one offset up to another, put together.
