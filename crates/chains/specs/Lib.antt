@@ -1,0 +1,5 @@
+pub mod Layered
+pub mod Overlay
+pub mod Stand
+pub mod Spots
+pub mod LeadsDown

@@ -1,0 +1,24 @@
+//! A text in layers: a base, and overlays above it that each say what changed.
+//!
+//! An edit of a long text doesn't copy it: it copies the changes of the top layer alone, and the layers
+//! below are shared. A look-up walks down from the top layer: where a place stands in what the layer put
+//! in, it is found there; elsewhere it is moved down to the layer below.
+//!
+//! Contracts see a chain as its base, and each layer above it as the text that it gives, each unit with
+//! its offset in the text below where it comes from there.
+#![tactic(auto)]
+
+mod chain;
+mod held;
+mod lookup;
+mod overlay;
+mod pieces;
+mod size;
+mod spot;
+mod stand;
+mod stretch;
+
+pub use chain::Chain;
+pub use pieces::Pieces;
+pub use size::LayerSize;
+pub use spot::Spot;
