@@ -4,3 +4,6 @@ pub mod StandLemmas
 pub mod RetagLemmas
 pub mod StandParts
 pub mod StretchLemmas
+pub mod WeaverLemmas
+pub mod ChainLemmas
+pub mod SizeLemmas

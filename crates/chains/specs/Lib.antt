@@ -2,3 +2,5 @@ pub mod Layered
 pub mod Overlay
 pub mod Stand
 pub mod Spots
+pub mod Weaving
+pub mod Chain
