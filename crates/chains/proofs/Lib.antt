@@ -7,3 +7,5 @@ pub mod StretchLemmas
 pub mod WeaverLemmas
 pub mod ChainLemmas
 pub mod SizeLemmas
+pub mod SpotLemmas
+pub mod WalkLemmas

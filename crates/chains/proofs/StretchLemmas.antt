@@ -69,6 +69,9 @@ stretch_units base gs us where_ i j is = ap (λ (xs : List ℕ). slice_range xs 
 pub laid_newest : (base : List ℕ) (os : List Overlay) (o : Overlay) (below : List Overlay) → os ≡ o ∷ below → AreLaid base os → IsLaid (text_of_all base below) o
 laid_newest base os o below os_is laid = let here : AreLaid base (o ∷ below) = subst (AreLaid base) os_is laid in here.0
 
+pub laid_below : (base : List ℕ) (os : List Overlay) (o : Overlay) (below : List Overlay) → os ≡ o ∷ below → AreLaid base os → AreLaid base below
+laid_below base os o below os_is laid = let here : AreLaid base (o ∷ below) = subst (AreLaid base) os_is laid in here.1
+
 pub text_short : (s : List ℕ) (o : Overlay) → IsLaid s o → length o.text ≤ MAX_UNITS
 text_short s o h = omega (arith, ap length h.puts_are, puts_short h.pieces h.tail, h.new_short)
 

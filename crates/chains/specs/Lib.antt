@@ -4,3 +4,4 @@ pub mod Stand
 pub mod Spots
 pub mod Weaving
 pub mod Chain
+pub mod LeadsDown

@@ -12,6 +12,7 @@ mod chain;
 mod held;
 pub mod laws;
 mod measure;
+mod lookup;
 mod overlay;
 mod pieces;
 mod size;

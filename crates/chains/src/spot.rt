@@ -1,5 +1,7 @@
 //! Places in a text, known both ways.
-ghost use Rattle.std.specs.Prelude.{◌≡◌, ◌≤◌, length};
+ghost use Rattle.std.specs.Prelude.{◌≡◌, ◌≤◌, ℕ, length};
+ghost use Rattle.points.specs.MarkText.{IsPointOf};
+ghost use Rattle.points.specs.Place.{point_at};
 ghost use Rattle.points.specs.Point.{IsWithin};
 ghost use Rattle.points.specs.declared.limits.TheConstants.{MAX_UNITS, MAX_COORD};
 ghost use Rattle.chains.specs.Spots.{ahead, spot_in};
@@ -22,6 +24,18 @@ pub(crate) fn spot_in(text: &LineText, offset: u32) -> Spot
     Spot {
         offset,
         point: text.point_at(offset as usize),
+    }
+}
+
+/// The place at a point that the text has.
+pub(crate) fn spot_to(text: &LineText, point: Point) -> Spot
+    requires { IsPointOf text.now point }
+    ensures { (i : ℕ) → i ≤ length text.now → point_at text.now i ≡ point → result ≡ spot_in text.now i }
+{
+    let offset = text.offset_of(point).unwrap_or(text.len());
+    Spot {
+        offset: offset as u32,
+        point,
     }
 }
 
