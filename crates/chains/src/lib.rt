@@ -11,8 +11,8 @@
 mod chain;
 mod held;
 pub mod laws;
-mod measure;
 mod lookup;
+mod measure;
 mod overlay;
 mod pieces;
 mod size;
