@@ -4,5 +4,8 @@ pub mod StandLemmas
 pub mod RetagLemmas
 pub mod StandParts
 pub mod StretchLemmas
+pub mod WeaverLemmas
+pub mod ChainLemmas
+pub mod SizeLemmas
 pub mod SpotLemmas
 pub mod WalkLemmas

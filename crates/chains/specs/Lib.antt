@@ -2,4 +2,6 @@ pub mod Layered
 pub mod Overlay
 pub mod Stand
 pub mod Spots
+pub mod Weaving
+pub mod Chain
 pub mod LeadsDown

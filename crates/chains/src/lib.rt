@@ -10,13 +10,16 @@
 
 mod chain;
 mod held;
+pub mod laws;
 mod lookup;
+mod measure;
 mod overlay;
 mod pieces;
 mod size;
 mod spot;
 mod stand;
 mod stretch;
+mod weaver;
 
 pub use chain::Chain;
 pub use pieces::Pieces;
