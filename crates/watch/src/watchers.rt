@@ -1,5 +1,7 @@
-ghost use Rattle.std.specs.Prelude.{◌≡◌, ℕ, ◌+◌, ◌-◌, ◌<◌, ◌≤◌, ◌^◌, ◌↔◌, ◌×◌, Bool, true, false, [], length, insert, remove, slice_get, Option, Some, None, IfOk, OnOk, OnErr, IsTrue};
-ghost use Rattle.watch.specs.Seats.{is_of, is_below, is_there, RisesFrom, AreSeats, count_below};
+//! The watchers that are attached to a text.
+ghost use Rattle.std.specs.Prelude.{◌≡◌, ℕ, ◌+◌, ◌-◌, ◌<◌, ◌≤◌, ◌^◌, ◌↔◌, Bool, true, false, [], length, insert, remove, Option, Some, None, MatchOption, IsErr, OnOk, OnErr};
+ghost use Rattle.watch.specs.Log.{log_of};
+ghost use Rattle.watch.specs.Seats.{Holds, AreSeats, WasTold, Follows, AllFollow, Inserts, is_below, is_there, slot_of, RisesFrom, count_below, Stands, is_of};
 
 use crate::refusal::{WatchBack, WatchUnknown};
 use crate::seat::{Listens, Seat};
@@ -11,32 +13,39 @@ use points::MAX_WATCHERS;
 /// The watchers that are attached, in rising order of ids.
 #[derive(Drop)]
 pub struct Watchers {
+    /// The places taken so far. Each holds a watcher.
     pub seats: ArrayVec<Option<Seat>, MAX_WATCHERS>,
+    /// How many changes were told.
+    pub told: u64,
 }
 
 impl Watchers {
     /// None.
     pub fn new() -> Watchers
-        ensures { result.seats.items ≡ [] }
+        ensures seats { result.seats.items ≡ [] }
+        ensures told { result.told ≡ 0 }
+        ensures stands { Stands (λ s. ⟦<Seat as Listens>⟧.kept s) result.told result.seats.items }
     {
         Watchers {
             seats: ArrayVec::new(),
+            told: 0,
         }
     }
 
     /// Attaches a watcher under an id. It was told nothing yet. Where that can't be, the watcher comes back.
     pub fn attach(&mut self, id: u32, watcher: Box<dyn Watcher>) -> Result<(), WatchBack>
         requires few { count_of watcher ≤ 2 ^ 63 }
-        requires order { RisesFrom (λ s. s.id) 0 self.old.seats.items }
-        requires kept { AreSeats (λ s. ⟦<Seat as Listens>⟧.kept s) self.old.seats.items }
-        ensures taken { (result ≡ Err (WatchBack.WatchTaken watcher)) ↔ (is_there (λ s. s.id) id self.old.seats.items ≡ true) }
-        ensures full { (result ≡ Err (WatchBack.WatchFull watcher)) ↔ ((is_there (λ s. s.id) id self.old.seats.items ≡ false) × (length self.old.seats.items ≡ MAX_WATCHERS)) }
+        requires stands { Stands (λ s. ⟦<Seat as Listens>⟧.kept s) self.old.told self.old.seats.items }
+        ensures taken { (result ≡ Err (WatchBack.WatchTaken watcher)) ↔ (is_there id self.old.seats.items ≡ true) }
+        ensures full { (result ≡ Err (WatchBack.WatchFull watcher)) ↔ ((is_there id self.old.seats.items ≡ false) × (length self.old.seats.items ≡ MAX_WATCHERS)) }
         ensures err { OnErr result (self.new.seats.items ≡ self.old.seats.items) }
-        ensures order { RisesFrom (λ s. s.id) 0 self.new.seats.items }
-        ensures kept { AreSeats (λ s. ⟦<Seat as Listens>⟧.kept s) self.new.seats.items }
+        ensures ok { OnOk result (Inserts (λ s. (s.id ≡ id) × (s.told ≡ 0) × (s.watcher ≡ watcher) × (s.opened.value ≡ watcher) × (log_of s.log ≡ []))
+            (count_below id self.old.seats.items) self.old.seats.items self.new.seats.items) }
+        ensures count { self.new.told ≡ self.old.told }
+        ensures stands { Stands (λ s. ⟦<Seat as Listens>⟧.kept s) self.new.told self.new.seats.items }
     {
         let at = place_of(self.seats.as_slice(), id);
-        if is_at(self.seats.as_slice(), at, id) {
+        if is_there(self.seats.as_slice(), at, id) {
             return Err(WatchBack::WatchTaken(watcher));
         }
         if self.seats.len() == MAX_WATCHERS {
@@ -48,48 +57,90 @@ impl Watchers {
 
     /// Takes a watcher off. It comes back with the number of changes that it was told.
     pub fn detach(&mut self, id: u32) -> Result<(Box<dyn Watcher>, u64), WatchUnknown>
-        requires order { RisesFrom (λ s. s.id) 0 self.old.seats.items }
-        requires kept { AreSeats (λ s. ⟦<Seat as Listens>⟧.kept s) self.old.seats.items }
-        ensures unknown { (result ≡ Err WatchUnknown) ↔ (is_there (λ s. s.id) id self.old.seats.items ≡ false) }
+        requires stands { Stands (λ s. ⟦<Seat as Listens>⟧.kept s) self.old.told self.old.seats.items }
+        ensures unknown { IsErr result ↔ (is_there id self.old.seats.items ≡ false) }
+        ensures answer { MatchOption (slot_of id self.old.seats.items) (IsErr result) (λ s. result ≡ Ok (s.watcher, s.told)) }
         ensures err { OnErr result (self.new.seats.items ≡ self.old.seats.items) }
-        ensures order { RisesFrom (λ s. s.id) 0 self.new.seats.items }
-        ensures kept { AreSeats (λ s. ⟦<Seat as Listens>⟧.kept s) self.new.seats.items }
+        ensures ok { OnOk result (self.new.seats.items ≡ remove self.old.seats.items (count_below id self.old.seats.items)) }
+        ensures count { self.new.told ≡ self.old.told }
+        ensures stands { Stands (λ s. ⟦<Seat as Listens>⟧.kept s) self.new.told self.new.seats.items }
     {
         let at = place_of(self.seats.as_slice(), id);
-        if !is_at(self.seats.as_slice(), at, id) {
+        if !is_there(self.seats.as_slice(), at, id) {
             return Err(WatchUnknown);
         }
-        match self.seats.remove(at) {
-            Some(seat) => {
-                let Seat {
-                    id: _,
-                    told,
-                    watcher,
-                    opened: _,
-                    log: _,
-                } = seat;
-                Ok((watcher, told))
-            }
-            None => Err(WatchUnknown),
-        }
+        parted(self.seats.remove(at))
     }
+
+    /// Tells each watcher a change, in rising order of ids.
+    pub fn tell(&mut self, change: &Change)
+        requires few { self.old.told < 2 ^ 63 - 1 }
+        requires stands { Stands (λ s. ⟦<Seat as Listens>⟧.kept s) self.old.told self.old.seats.items }
+        ensures told { AllFollow (WasTold change.now) self.old.seats.items self.new.seats.items }
+        ensures count { self.new.told ≡ self.old.told + 1 }
+        ensures stands { Stands (λ s. ⟦<Seat as Listens>⟧.kept s) self.new.told self.new.seats.items }
+    {
+        tell_slots(self.seats.as_mut_slice(), change);
+        self.told += 1;
+    }
+}
+
+// Tells each a change, in turn.
+fn tell_slots(slots: &mut [Option<Seat>], change: &Change)
+    requires few { AreSeats (λ s. s.told < 2 ^ 63 - 1) slots.old }
+    requires kept { AreSeats (λ s. ⟦<Seat as Listens>⟧.kept s) slots.old }
+    ensures told { AllFollow (WasTold change.now) slots.old slots.new }
+    ensures kept { AreSeats (λ t. ⟦<Seat as Listens>⟧.kept t) slots.new }
+{
+    for slot in slots.iter_mut() {
+        tell_slot(slot, change);
+    }
+}
+
+// Tells the one in a slot a change.
+fn tell_slot(slot: &mut Option<Seat>, change: &Change)
+    requires few { Holds (λ s. s.told < 2 ^ 63 - 1) slot.old }
+    requires kept { Holds (λ s. ⟦<Seat as Listens>⟧.kept s) slot.old }
+    ensures told { Follows (WasTold change.now) slot.old slot.new }
+    ensures kept { Holds (λ t. ⟦<Seat as Listens>⟧.kept t) slot.new }
+{
+    if let Some(seat) = slot {
+        seat.tell(change);
+    }
+}
+
+// The watcher of the seat in a slot, and how many changes it was told.
+fn parted(slot: Option<Seat>) -> Result<(Box<dyn Watcher>, u64), WatchUnknown>
+    ensures { MatchOption slot (IsErr result) (λ s. result ≡ Ok (s.watcher, s.told)) }
+{
+    let Some(seat) = slot else {
+        return Err(WatchUnknown);
+    };
+    let Seat {
+        id: _,
+        told,
+        watcher,
+        opened: _,
+        log: _,
+    } = seat;
+    Ok((watcher, told))
 }
 
 // How many of the seats have a lower id.
 fn place_of(seats: &[Option<Seat>], id: u32) -> usize
-    ensures value { result ≡ count_below (λ s. s.id) id seats.now }
-    ensures within { result ≤ length seats.now }
+    ensures { result ≡ count_below id seats.now }
 {
-    let mut at = 0;
-    while at < seats.len() && is_lower(&seats[at], id) {
-        at += 1;
+    for (at, slot) in seats.iter().enumerate() {
+        if !is_lower(slot, id) {
+            return at;
+        }
     }
-    at
+    seats.len()
 }
 
 // Whether a slot's seat has a lower id.
 fn is_lower(slot: &Option<Seat>, id: u32) -> bool
-    ensures { result ≡ is_below (λ s. s.id) id slot.now }
+    ensures { result ≡ is_below id slot.now }
 {
     match slot {
         Some(seat) => seat.id < id,
@@ -97,11 +148,21 @@ fn is_lower(slot: &Option<Seat>, id: u32) -> bool
     }
 }
 
-// Whether the slot at a place holds the seat of an id.
-fn is_at(seats: &[Option<Seat>], at: usize, id: u32) -> bool
+// Whether the seat of an id is there. Its place is known.
+fn is_there(seats: &[Option<Seat>], at: usize, id: u32) -> bool
+    requires place { at ≡ count_below id seats.now }
+    requires order { RisesFrom 0 seats.now }
+    ensures { result ≡ is_there id seats.now }
 {
-    match seats.get(at) {
-        Some(Some(seat)) => seat.id == id,
-        _ => false,
+    at < seats.len() && is_seat(&seats[at], id)
+}
+
+// Whether a slot holds the seat of an id.
+fn is_seat(slot: &Option<Seat>, id: u32) -> bool
+    ensures { result ≡ is_of id slot.now }
+{
+    match slot {
+        Some(seat) => seat.id == id,
+        None => false,
     }
 }
