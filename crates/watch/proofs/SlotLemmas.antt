@@ -86,24 +86,24 @@ module _ {X : Type 0} {D : X → Type 0} where
   ]
 
   -- the seat of n, and where it is
-  pub record Found (n : ℕ) (os : List (Option (Seat X D))) (d : Option (Seat X D)) : Type 0 where
+  pub record Found (n : ℕ) (os : List (Option (Seat X D))) : Type 0 where
     pub seat : Seat X D
     pub within : count_below n os < length os
-    pub here : get_or os (count_below n os) d ≡ Some seat
+    pub here : (d : Option (Seat X D)) → get_or os (count_below n os) d ≡ Some seat
     pub first : slot_of n os ≡ Some seat
 
-  pub found : (n m : ℕ) (os : List (Option (Seat X D))) (d : Option (Seat X D)) → RisesFrom m os → is_there n os ≡ true → Found n os d
-  found n m [] d r t = absurd (false≢true t)
-  found n m (None ∷ os) d r t = absurd r
-  found n m (Some s ∷ os) d r t = elim (cases_lt s.id n) [
+  pub found : (n m : ℕ) (os : List (Option (Seat X D))) → RisesFrom m os → is_there n os ≡ true → Found n os
+  found n m [] r t = absurd (false≢true t)
+  found n m (None ∷ os) r t = absurd r
+  found n m (Some s ∷ os) r t = elim (cases_lt s.id n) [
     | inl low ↦
         let e : (s.id == n) ≡ false = grind (arith, nat_tests, low) in
-        let rest = found n (suc s.id) os d r.1 (rw e at t) in
+        let rest = found n (suc s.id) os r.1 (rw e at t) in
         let more = rest.within in
-        record { seat = rest.seat; within = rw (lt-ltb s.id n low) (omega (arith, more)); here = rw (lt-ltb s.id n low) rest.here; first = rw e rest.first }
+        record { seat = rest.seat; within = rw (lt-ltb s.id n low) (omega (arith, more)); here = λ d. rw (lt-ltb s.id n low) (rest.here d); first = rw e rest.first }
     | inr high ↦
         let e : (s.id == n) ≡ true = first_true (s.id == n) (is_there n os) t (none_below n (suc s.id) os r.1 (omega (arith, high))) in
-        record { seat = s; within = rw (le-ltb s.id n high) (omega arith); here = rw (le-ltb s.id n high) refl; first = rw e refl }
+        record { seat = s; within = rw (le-ltb s.id n high) (omega arith); here = λ d. rw (le-ltb s.id n high) refl; first = rw e refl }
   ]
 
   pub slot_none : (n : ℕ) (os : List (Option (Seat X D))) → is_there n os ≡ false → slot_of n os ≡ None
@@ -163,3 +163,19 @@ module _ {X : Type 0} {D : X → Type 0} where
     kept = remove_seats K k os h.kept;
     few = remove_seats (λ x. x.told ≤ told) k os h.few;
   }
+
+  -- what the calls read of a slice is true of the slots
+  pub tested : (n : ℕ) (os qs : List (Option (Seat X D))) (b t : Bool) → qs ≡ os → b ≡ is_there n qs → b ≡ t → is_there n os ≡ t
+  tested n os qs b t q e h = ap (λ (l : List (Option (Seat X D))). is_there n l) (sym q) ∙ (sym e ∙ h)
+
+  pub placed : (n p : ℕ) (os qs : List (Option (Seat X D))) → qs ≡ os → p ≡ count_below n qs → p ≡ count_below n os
+  placed n p os qs q e = e ∙ ap (λ (l : List (Option (Seat X D))). count_below n l) q
+
+  pub put_in : (n p : ℕ) (s : Seat X D) (os news : List (Option (Seat X D))) → p ≡ count_below n os → news ≡ insert os p (Some s) → news ≡ insert os (count_below n os) (Some s)
+  put_in n p s os news e h = h ∙ ap (λ (k : ℕ). insert os k (Some s)) e
+
+  pub put_out : (n p : ℕ) (os news : List (Option (Seat X D))) → p ≡ count_below n os → news ≡ remove os p → news ≡ remove os (count_below n os)
+  put_out n p os news e h = h ∙ ap (λ (k : ℕ). remove os k) e
+
+  pub taken_out : (n p : ℕ) (os : List (Option (Seat X D))) (d : Option (Seat X D)) (f : Found n os) → p ≡ count_below n os → d ≡ get_or os p d → d ≡ Some f.seat
+  taken_out n p os d f e h = h ∙ (ap (λ (k : ℕ). get_or os k d) e ∙ f.here d)

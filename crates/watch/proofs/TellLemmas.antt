@@ -1,6 +1,7 @@
 -- Slots whose seats are told a change in turn.
 use Rattle.std.proofs.Common.{◌≡◌, ℕ, zero, suc, ◌+◌, ◌<◌, ◌≤◌, List, [], ◌∷◌, length, get_or, set, refl, sym, ap, ◌∙◌, arith, add-one}
 use Rattle.std.specs.Prelude.{Option, Some, None}
+use Rattle.std.specs.List.{refill}
 use Rattle.patch.specs.declared.change.Change.{Change}
 use Rattle.watch.specs.declared.seat.Seat.{Seat}
 use Rattle.watch.specs.Seats.{Holds, AreSeats, WasTold, Follows, AllFollow, RisesFrom, Stands}
@@ -13,12 +14,6 @@ module _ {X : Type 0} {D : X → Type 0} where
     Partly (suc i) [] ps = ps ≡ []
     Partly (suc i) (o ∷ os) [] = ⊥
     Partly (suc i) (o ∷ os) (p ∷ ps) = R o p × Partly i os ps
-
-    pub same_length : (i : ℕ) (os ps : List (Option (Seat X D))) → Partly i os ps → length ps ≡ length os
-    same_length zero os ps h = ap (λ l. length l) h
-    same_length (suc i) [] ps h = ap (λ l. length l) h
-    same_length (suc i) (o ∷ os) [] h = absurd h
-    same_length (suc i) (o ∷ os) (p ∷ ps) h = ap (λ n. suc n) (same_length i os ps h.1)
 
     same_next : (i : ℕ) (os ps : List (Option (Seat X D))) (d : Option (Seat X D)) → Partly i os ps → i < length os → get_or ps i d ≡ get_or os i d
     same_next i [] ps d h l = absurd (omega arith)
@@ -83,3 +78,21 @@ module _ {X : Type 0} {D : X → Type 0} where
     kept = kept;
     few = one_more c m os ps told h.few;
   }
+
+  same_length : (c : Change) (os ps : List (Option (Seat X D))) → AllFollow (WasTold c) os ps → length ps ≡ length os
+  same_length c [] [] h = refl
+  same_length c [] (p ∷ ps) h = absurd h
+  same_length c (o ∷ os) [] h = absurd h
+  same_length c (o ∷ os) (p ∷ ps) h = ap (λ n. suc n) (same_length c os ps h.1)
+
+  filled : (os ps : List (Option (Seat X D))) → length ps ≡ length os → refill (length os) os ps ≡ ps
+  filled [] [] h = refl
+  filled [] (p ∷ ps) h = absurd (omega (arith, h))
+  filled (o ∷ os) [] h = absurd (omega (arith, h))
+  filled (o ∷ os) (p ∷ ps) h = ap (λ l. p ∷ l) (filled os ps (omega (arith, h)))
+
+  -- so where they are written back
+  pub refilled_stands : (K : Seat X D → Type 0) (c : Change) (m : ℕ) (os qs ps : List (Option (Seat X D))) → qs ≡ os → Stands K m os → AllFollow (WasTold c) qs ps → AreSeats K ps → Stands K (m + 1) (refill (length os) os ps)
+  refilled_stands K c m os qs ps q h told kept =
+      let told' : AllFollow (WasTold c) os ps = rw q at told in
+      rw (filled os ps (same_length c os ps told')) (told_stands K c m os ps h told' kept)
