@@ -34,10 +34,11 @@ pub struct Seat {
 }
 
 impl Listens for Seat {
+    ghost use Rattle.std.specs.Prelude.{◌≡◌};
     ghost use Rattle.watch.specs.Kept.{IsKept};
     ghost use Rattle.watch.specs.Log.{log_of};
 
-    ghost kept = { λ s. IsKept ((Watcher-box s.watcher).count_of s.watcher.value) ((Watcher-box s.watcher).list_of s.watcher.value) ((Watcher-box s.opened.value).count_of s.opened.value.value) ((Watcher-box s.opened.value).list_of s.opened.value.value) s.told (log_of s.log) };
+    ghost kept = { λ s. (s.watcher.ptr ≡ s.opened.value.ptr) × (s.watcher.vtable ≡ s.opened.value.vtable) × IsKept ((Watcher-box s.watcher).count_of s.watcher.value) ((Watcher-box s.watcher).list_of s.watcher.value) ((Watcher-box s.opened.value).count_of s.opened.value.value) ((Watcher-box s.opened.value).list_of s.opened.value.value) s.told (log_of s.log) };
 }
 
 impl Seat {
