@@ -1,11 +1,11 @@
 -- Places among slots whose ids rise.
-use Rattle.std.proofs.Common.{◌≡◌, ℕ, zero, suc, ◌+◌, ◌<◌, ◌≤◌, Bool, true, false, cond, List, [], ◌∷◌, length, get_or, set, take, drop, refl, sym, ap, ◌∙◌, inl, inr, arith, add-one}
+use Rattle.std.proofs.Common.{◌≡◌, ℕ, zero, suc, ◌+◌, ◌<◌, ◌≤◌, Bool, true, false, cond, List, [], ◌∷◌, length, get_or, drop, refl, sym, ap, ◌∙◌, inl, inr, arith, add-one}
 use Rattle.std.proofs.lemmas.Bool.Decides.{nat_tests}
 use Rattle.std.proofs.lemmas.Bool.{cases_lt, lt-ltb, le-ltb, false≢true}
 use Rattle.std.proofs.Math.ListN.{drop_of_length-le}
-use Rattle.std.specs.Prelude.{Option, Some, None, ◌==◌, ◌||◌, nat_lt, insert, remove}
+use Rattle.std.specs.Prelude.{Option, Some, None, ◌==◌, ◌||◌, insert, remove}
 use Rattle.watch.specs.declared.seat.Seat.{Seat}
-use Rattle.watch.specs.Seats.{Holds, AreSeats, is_of, is_below, is_there, slot_of, RisesFrom, count_below, Stands}
+use Rattle.watch.specs.Seats.{AreSeats, is_of, is_below, is_there, slot_of, RisesFrom, count_below, Stands}
 
 one_more : (b : Bool) (k n : ℕ) → k ≤ n → cond b (suc k) 0 ≤ suc n
 one_more true k n h = omega (arith, h)

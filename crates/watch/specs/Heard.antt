@@ -1,5 +1,4 @@
 -- What a watcher hears.
-use Rattle.std.specs.Prelude.{ℕ, List, [], ◌∷◌, ◌++◌, Option, Some, None}
 use Rattle.patch.specs.declared.change.Change.{Change}
 use Rattle.watch.specs.declared.watcher.Heard.{Heard}
 

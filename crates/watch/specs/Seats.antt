@@ -1,5 +1,5 @@
 -- The slots of a table of watchers. Each holds a seat, in rising order of ids.
-use Rattle.std.specs.Prelude.{◌≡◌, ℕ, suc, ◌+◌, ◌<◌, ◌≤◌, ◌==◌, ◌||◌, ⊤, Bool, false, if◌then◌else◌, nat_lt, List, [], ◌∷◌, ◌++◌, insert, Option, Some, None}
+use Rattle.std.specs.Prelude.{◌≡◌, ℕ, suc, ◌+◌, ◌≤◌, ◌==◌, ◌||◌, ⊤, Bool, false, if◌then◌else◌, nat_lt, List, [], ◌∷◌, ◌++◌, insert, Option, Some, None}
 use Rattle.patch.specs.declared.change.Change.{Change}
 use Rattle.watch.specs.declared.seat.Seat.{Seat}
 use Rattle.watch.specs.Heard.{heard_of}

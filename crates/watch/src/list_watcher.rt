@@ -1,5 +1,4 @@
-ghost use Rattle.std.specs.Prelude.{◌≡◌, ℕ, ◌+◌, ◌-◌, ◌<◌, ◌≤◌, ◌^◌, List, [], ◌∷◌, ◌++◌, Option, Some, None, length, option_map, OnSome, IfOk, if◌then◌else◌, nat_le, vec_len, vec_capacity};
-ghost use Rattle.watch.specs.declared.watcher.Heard.{Heard};
+ghost use Rattle.std.specs.Prelude.{◌≡◌, ◌≤◌, [], Some, None, IfOk, if◌then◌else◌, nat_le, vec_len, vec_capacity};
 
 use crate::watcher::{Heard, Watcher};
 use patch::Change;

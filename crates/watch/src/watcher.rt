@@ -1,5 +1,5 @@
 //! What a watcher is.
-ghost use Rattle.std.specs.Prelude.{◌≡◌, ℕ, ◌+◌, ◌-◌, ◌<◌, ◌^◌, List, [], ◌∷◌, ◌++◌, Option, Some, option_map, OnSome};
+ghost use Rattle.std.specs.Prelude.{◌≡◌, ℕ, ◌+◌, ◌-◌, ◌<◌, ◌^◌, List, [], ◌∷◌, ◌++◌, Option, option_map, OnSome};
 ghost use Rattle.watch.specs.declared.watcher.Heard.{Heard};
 ghost use Rattle.watch.specs.Heard.{heard_of};
 

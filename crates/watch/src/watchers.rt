@@ -1,5 +1,5 @@
 //! The watchers that are attached to a text.
-ghost use Rattle.std.specs.Prelude.{◌≡◌, ℕ, ◌+◌, ◌-◌, ◌<◌, ◌≤◌, ◌^◌, ◌↔◌, Bool, true, false, [], length, insert, remove, Option, Some, None, MatchOption, IsErr, OnOk, OnErr};
+ghost use Rattle.std.specs.Prelude.{◌≡◌, ◌+◌, ◌-◌, ◌<◌, ◌≤◌, ◌^◌, ◌↔◌, true, false, [], length, remove, MatchOption, IsErr, OnOk, OnErr};
 ghost use Rattle.watch.specs.Log.{log_of};
 ghost use Rattle.watch.specs.Seats.{Holds, AreSeats, WasTold, Follows, AllFollow, Inserts, is_below, is_there, slot_of, RisesFrom, count_below, Stands, is_of};
 
