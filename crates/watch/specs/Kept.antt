@@ -1,5 +1,5 @@
 -- What is true of an attached watcher, and of what a table of them has.
-use Rattle.std.specs.Prelude.{◌≡◌, ℕ, ◌+◌, ◌^◌, ◌≤◌, true, List, ◌++◌, length, Option, option_map, OnSome}
+use Rattle.std.specs.Prelude.{◌≡◌, ℕ, ◌+◌, ◌^◌, ◌≤◌, List, ◌++◌, length, Option, option_map, OnSome}
 use Rattle.watch.specs.declared.watcher.Heard.{Heard}
 
 -- it heard, since it was attached, what it was told: where it tells what it heard, this is what it had heard before, and then that
