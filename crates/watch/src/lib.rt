@@ -1,0 +1,14 @@
+//! Watchers of a text: boxed objects of the caller that hear every change once.
+#![tactic(auto)]
+
+mod list_watcher;
+mod refusal;
+mod seat;
+mod watcher;
+mod watchers;
+
+pub use list_watcher::ListWatcher;
+pub use refusal::{WatchBack, WatchUnknown};
+pub use seat::{Listens, Log, Seat};
+pub use watcher::{Heard, Watcher};
+pub use watchers::Watchers;
