@@ -32,3 +32,5 @@ mod splay_tests;
 mod splice_runs_tests;
 #[cfg(test)]
 mod tagged_runs;
+#[cfg(test)]
+mod watch_tests;
