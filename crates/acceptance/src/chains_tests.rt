@@ -11,6 +11,7 @@ fn at(row: u32, column: u32) -> Point {
 
 // Two rows, with a pair of surrogates in the second.
 const TEXT: &str = "ab\r\nc\u{1f600}d";
+
 const UNITS: [u16; 8] = [97, 98, 13, 10, 99, 0xd83d, 0xde00, 100];
 
 fn chain_of_text(alloc: Global) -> Result<Option<Chain>, NoMemory> {
@@ -40,6 +41,15 @@ fn is_point(chain: &Chain, offset: usize, point: Point) -> bool {
     offset <= chain.len() && chain.point_at(offset) == point
 }
 
+// Whether the place at an offset is found again by its point.
+fn is_found(chain: &Chain, offset: usize) -> bool {
+    if offset > chain.len() {
+        return false;
+    }
+    let spot = chain.spot_at(offset);
+    chain.spot_of(spot.point) == spot
+}
+
 fn is_whole(chain: &Chain) -> bool {
     let end = Spot {
         offset: 8,
@@ -49,7 +59,12 @@ fn is_whole(chain: &Chain) -> bool {
 }
 
 // Whether a range is put behind what the list has.
-fn is_appended(alloc: Global, chain: &Chain, to: usize, expected: &[u16]) -> Result<bool, NoMemory> {
+fn is_appended(
+    alloc: Global,
+    chain: &Chain,
+    to: usize,
+    expected: &[u16],
+) -> Result<bool, NoMemory> {
     let mut into = Units::from_str(alloc, "x")?;
     if to > chain.len() {
         return Ok(false);
@@ -82,6 +97,7 @@ fn names_the_points_of_offsets(rt: HostRuntime) -> Result<(), Fail> {
     assert!(rt; is_point(&chain, 3, at(0, 3)));
     assert!(rt; is_point(&chain, 4, at(1, 0)));
     assert!(rt; is_point(&chain, 8, at(1, 4)));
+    assert!(rt; is_found(&chain, 0) && is_found(&chain, 4) && is_found(&chain, 8));
     Ok(())
 }
 
