@@ -5,6 +5,7 @@ pub mod RetagLemmas
 pub mod StandParts
 pub mod StretchLemmas
 pub mod WeaverLemmas
+pub mod EditLemmas
 pub mod ChainLemmas
 pub mod SizeLemmas
 pub mod SpotLemmas

@@ -9,6 +9,7 @@
 #![tactic(auto)]
 
 mod chain;
+mod edit;
 mod held;
 pub mod laws;
 mod lookup;
