@@ -1,20 +1,18 @@
 -- The rule that a command of what is built breaks, if any.
-use Rattle.std.proofs.Common.{◌≡◌, ◌+◌, ◌≤◌, ◌&&◌, ◌||◌, not, ℕ, List, [], ◌∷◌, length, Bool, true, false, cond, Option, Some, None, option_map, option_and_then, is_some, refl, sym, ap, subst, ◌∙◌, ◌⊎◌, inl, inr, arith}
+use Rattle.std.proofs.Common.{◌≡◌, ◌+◌, ◌≤◌, ◌&&◌, ◌||◌, not, ℕ, List, [], ◌∷◌, Bool, true, false, cond, Option, Some, None, option_map, option_and_then, refl, sym, ap, subst, ◌∙◌, ◌⊎◌, inl, inr, arith}
 use Rattle.std.specs.Prelude.{nat_lt, nat_le, ◌==◌, codes}
-use Rattle.std.proofs.lemmas.Bool.{leb-true, le-ltb, ltb-false, le-leb, eqb-true, and_parts, not-false, false≢true, true≢false}
+use Rattle.std.proofs.lemmas.Bool.{leb-true, le-leb, and_parts, not-false, false≢true}
 use Rattle.std.proofs.lemmas.Bool.Decides.{nat_tests}
 use Rattle.std.proofs.lemmas.Option.{none-some, option_and_then_some}
-use Rattle.points.specs.declared.limits.TheConstants.{MAX_WATCHERS}
 use Rattle.points.specs.declared.range.Range.{Range}
 use Rattle.machine.specs.declared.command.Command.{Command}
 use Rattle.machine.specs.declared.command.Command.TheVariants as command
 use Rattle.script.specs.declared.before.Before.{Before}
-use Rattle.script.specs.declared.limits.TheConstants.{MAX_COMMANDS, MAX_READINGS, MAX_SAVES, MAX_FINDS, MAX_SHOWN}
-use Rattle.script.specs.declared.refusal.ScriptRule.{ScriptRule}
+use Rattle.script.specs.declared.limits.TheConstants.{MAX_COMMANDS, MAX_READINGS, MAX_SHOWN}
 use Rattle.script.specs.declared.refusal.ScriptRule.TheVariants.{BadShape, TooMany, UnknownSnapshot, SnapshotTaken, BadNumber, BadEncoding, EmptyNeedle, BadName}
 use Rattle.script.specs.Limits.{is_reading}
 use Rattle.script.specs.Parts.{member_count, string_in, whole_of, whole_in, range_of, range_in, is_word}
-use Rattle.script.specs.Reading.{counted, IsFew, has_room, IsRead}
+use Rattle.script.specs.Reading.{counted, has_room, IsRead}
 use Rattle.script.specs.Rows as kind
 use Rattle.script.specs.Rows.{Kind}
 use Rattle.script.specs.Rules as rules
@@ -26,7 +24,7 @@ use Rattle.script.proofs.LimitLemmas.{behind_map}
 use Rattle.script.proofs.RuleLemmas.{few, or_false, there}
 use Rattle.script.proofs.ScriptExact.{test_some, either_some, word_exact, string_exact, range_exact, whole_exact}
 use Rattle.serde_json.specs.Data.{Data, string}
-use Rattle.serde_json.specs.Find.{get, as_str, as_number}
+use Rattle.serde_json.specs.Find.{get, as_str}
 
 -- ---- the tests that matter
 

@@ -1,15 +1,16 @@
 -- Which bytes are a document, and how it is refused.
-use Rattle.std.proofs.Common.{◌≡◌, ℕ, List, Bool, true, false, Option, Some, None, cond, Result, Ok, Err, refl}
+use Rattle.std.proofs.Common.{◌≡◌, ℕ, List, Bool, true, false, Option, Some, None, is_some, cond, Result, Ok, Err, refl}
 use Rattle.std.specs.Prelude.{IfOk, IfErr}
 use Rattle.std.specs.Str.{IsUtf8, is_utf8}
+use Rattle.std.proofs.lemmas.Option.{none-some}
 use Rattle.std.proofs.lemmas.Str.{is_utf8-from_IsUtf8, IsUtf8-from_is_utf8}
 use Rattle.machine.specs.declared.command.Script.{Script}
 use Rattle.script.specs.declared.refusal.ScriptRefusal.{ScriptRefusal}
 use Rattle.script.specs.declared.refusal.ScriptRefusal.TheVariants.{Refused}
 use Rattle.script.specs.declared.refusal.ScriptRule.TheVariants.{NotJson}
 use Rattle.script.specs.Limits.{IsWithinLimits}
-use Rattle.script.specs.Rules.{built_place}
-use Rattle.script.specs.ScriptDocument.{script_of, document, script_in, script_place, IsRefusalAt}
+use Rattle.script.specs.Rules.{Fault, built_place}
+use Rattle.script.specs.ScriptDocument.{reading, script_of, document, script_in, script_place, IsRefusalAt}
 use Rattle.script.proofs.KeyOrder.{document_in_order}
 use Rattle.script.proofs.LimitLemmas.{within_limits}
 use Rattle.script.proofs.RuleLemmas.{read_within}
@@ -38,6 +39,18 @@ script_read bytes d (Err refusal) is e = tt
 pub limits_kept : (bytes : List ℕ) (d : Data) (r : Result Script ScriptRefusal) → document bytes ≡ Some d → IfOk r (λ s. script_of d ≡ Some s) → IfOk r (λ s. IsWithinLimits s)
 limits_kept bytes d (Ok s) is e = let within = read_within d s (document_in_order bytes d is) e in within_limits s within.0 within.1
 limits_kept bytes d (Err refusal) is e = tt
+
+no_place : (o : Option Fault) (p : Option Script) (s : Script) → cond (is_some o) None p ≡ Some s → o ≡ None
+no_place None p s e = refl
+no_place (Some x) p s e = absurd (none-some s e)
+
+place_kept : (d : Data) (s : Script) → script_of d ≡ Some s → built_place d ≡ None
+unfolding script_of
+place_kept d s e = no_place (built_place d) (reading d) s e
+
+pub script_kept : (bytes : List ℕ) (d : Data) (r : Result Script ScriptRefusal) → document bytes ≡ Some d → IfOk r (λ s. script_of d ≡ Some s) → IfOk r (λ s. script_place bytes ≡ None)
+script_kept bytes d (Ok s) is e = rw is (place_kept d s e)
+script_kept bytes d (Err refusal) is e = tt
 
 -- the refusals
 pub not_json : (bytes : List ℕ) (r : ScriptRefusal) → document bytes ≡ None → r ≡ Refused 0 0 NotJson → IsRefusalAt (script_place bytes) r

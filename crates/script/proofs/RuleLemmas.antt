@@ -1,10 +1,10 @@
 -- The value of a script of what is built has no place that breaks a rule exactly where the script is within its limits.
-use Rattle.std.proofs.Common.{◌≡◌, ◌+◌, ◌≤◌, ◌++◌, ◌&&◌, ◌||◌, not, ℕ, List, [], ◌∷◌, length, map, drop, count_by, Bool, true, false, cond, Option, Some, None, option_map, option_and_then, is_some, refl, sym, subst, ◌∙◌, arith, length-append}
+use Rattle.std.proofs.Common.{◌≡◌, ◌+◌, ◌≤◌, ◌++◌, ◌&&◌, ◌||◌, not, ℕ, List, [], ◌∷◌, length, map, drop, count_by, Bool, true, false, cond, Option, Some, None, option_map, is_some, refl, sym, subst, arith, length-append}
 use Rattle.std.specs.Prelude.{nat_lt, nat_le, ◌==◌, codes}
 use Rattle.std.specs.List.{AllByRecursion, list_all}
 use Rattle.std.specs.Option.{option_or}
 use Rattle.std.proofs.lemmas.List.Sums.{sum_by-cons}
-use Rattle.std.proofs.lemmas.Option.{none-some, cond_some, option_and_then_some}
+use Rattle.std.proofs.lemmas.Option.{none-some}
 use Rattle.std.proofs.lemmas.Bool.{leb-true, le-ltb, ltb-false, le-leb, eqb-true, and_parts, and_from, not-false, false≢true}
 use Rattle.points.specs.declared.limits.TheConstants.{MAX_UNITS, MAX_WATCHERS}
 use Rattle.points.specs.declared.range.Range.{Range}

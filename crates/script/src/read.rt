@@ -77,7 +77,8 @@ fn read_command(alloc: Global, before: &mut Before, value: &Value) -> Result<Com
     }
 }
 
-// The commands of the first session, one after another.
+// The commands of the first session, one after another. So a command's number is one more than how many were
+// counted before it.
 fn commands_of(alloc: Global, items: &[Value]) -> Result<Vec<Command>, ScriptRefusal>
     ensures read { IfOk result (λ cs. commands_of (items_view items.now) ≡ Some cs.items) }
     ensures kept { IfOk result (λ cs. place_in_session false 1 1 at_start (items_view items.now) ≡ None) }
@@ -201,6 +202,7 @@ fn read_value(alloc: Global, value: &Value) -> Result<Script, ScriptRefusal>
 pub fn read_script(alloc: Global, bytes: &[u8]) -> Result<Script, ScriptRefusal>
     ensures read { IfOk result (λ s. script_in bytes.now ≡ Some s) }
     ensures limits { IfOk result (λ s. IsWithinLimits s) }
+    ensures kept { IfOk result (λ s. script_place bytes.now ≡ None) }
     ensures refused { IfErr result (IsRefusalAt (script_place bytes.now)) }
 {
     let value = match Value::from_slice(alloc, bytes) {

@@ -1,7 +1,7 @@
 use Rattle.std.proofs.Common.{Some, sym, ◌∙◌}
 use Rattle.std.proofs.lemmas.Bool.{false≢true}
 use Rattle.serde_json.specs.View.{view}
-use Rattle.script.proofs.Documents.{document_is, no_document, script_read, limits_kept, refused_at, not_json}
+use Rattle.script.proofs.Documents.{document_is, no_document, script_read, script_kept, limits_kept, refused_at, not_json}
 use Rattle.script.proofs.read.read_script.Goals as goal
 
 pub returns-in-Err-2-clause-refused : goal.returns-in-Err-2-clause-refused
@@ -23,3 +23,8 @@ pub returns-clause-refused : goal.returns-clause-refused
 returns-clause-refused c =
     let is = document_is c.args.bytes.now (Some (view c.in-Ok.value)) c.in-Ok.ensures.ok.0 c.in-Ok.ensures.ok.1 in
     refused_at c.args.bytes.now (view c.in-Ok.value) c.read_value.result is c.read_value.ensures.refused
+
+pub returns-clause-kept : goal.returns-clause-kept
+returns-clause-kept c =
+    let is = document_is c.args.bytes.now (Some (view c.in-Ok.value)) c.in-Ok.ensures.ok.0 c.in-Ok.ensures.ok.1 in
+    script_kept c.args.bytes.now (view c.in-Ok.value) c.read_value.result is c.read_value.ensures.read
