@@ -7,59 +7,91 @@ use script::{
 use std::alloc::{AllocError, Global};
 use std::test::Fail;
 
-// Whether the document breaks the rule of this name, or none where the name is `none`. The place is always that of
-// the document itself.
-fn breaks(alloc: Global, document: &[u8], rule: &str) -> bool {
+// The place and the rule of a document's fault, as `0 0 NotJson`; `read` where it has none.
+fn outcome(alloc: Global, document: &[u8]) -> Result<String, AllocError> {
     match read_script(alloc, document) {
-        Ok(_) => rule == "none",
+        Ok(_) => format!(in alloc; "read"),
         Err(
             ScriptRefusal::Refused {
-                session: 0,
-                command: 0,
+                session,
+                command,
                 why,
             },
-        ) => rule == why.name(),
+        ) => format!(in alloc; "{session} {command} {why}"),
+        Err(ScriptRefusal::NoMemory) => format!(in alloc; "no memory"),
+    }
+}
+
+fn ends(alloc: Global, document: &[u8], wanted: &str) -> bool {
+    match outcome(alloc, document) {
+        Ok(found) => found.as_str() == wanted,
         Err(_) => false,
     }
 }
 
-// A row of a table: the name of a rule, a blank and a document.
+// A row of a table: what is wanted, a bar and a document.
 fn holds(alloc: Global, row: &str) -> bool {
-    match row.split_once(' ') {
-        Some((rule, document)) => breaks(alloc, document.as_bytes(), rule),
+    match row.split_once('|') {
+        Some((wanted, document)) => ends(alloc, document.as_bytes(), wanted),
         None => false,
     }
 }
 
 // Nothing; a truncated script; a value after the value; a lone surrogate; a pair of surrogates; an unknown key;
-// another key; a missing key; a key twice, the last one right; a key twice, the first one right; version 1.0; version
-// 3; a version that is a string; an opening file; an opening text that is a number; no session; two sessions; a
-// session that is no list; a command that is no object; a string; a list.
+// another key; each key missing; a key twice, the last one right; a key twice, the first one right; other versions;
+// an opening file; openings of other shapes; no session; two and nine sessions; sessions and a session that are no
+// list; a command that is no object, a string, and a list. A fault of the document comes before those of commands.
 const DOCUMENTS: &str = "\
-NotJson \n\
-NotJson {\"version\":1,\n\
-NotJson {} {}\n\
-NotJson {\"version\":1,\"open\":{\"text\":\"\\ud800\"},\"sessions\":[[]]}\n\
-none {\"version\":1,\"open\":{\"text\":\"\\ud83d\\ude00\"},\"sessions\":[[]]}\n\
-BadShape {\"version\":1,\"open\":{\"text\":\"\"},\"sessions\":[[]],\"more\":0}\n\
-BadShape {\"version\":1,\"open\":{\"text\":\"\"},\"session\":[[]]}\n\
-BadShape {\"version\":1,\"open\":{\"text\":\"\"}}\n\
-none {\"version\":2,\"version\":1,\"open\":{\"text\":\"\"},\"sessions\":[[]]}\n\
-BadShape {\"version\":1,\"version\":2,\"open\":{\"text\":\"\"},\"sessions\":[[]]}\n\
-BadShape {\"version\":1.0,\"open\":{\"text\":\"\"},\"sessions\":[[]]}\n\
-BadShape {\"version\":3,\"open\":{\"text\":\"\"},\"sessions\":[[]]}\n\
-BadShape {\"version\":\"1\",\"open\":{\"text\":\"\"},\"sessions\":[[]]}\n\
-BadShape {\"version\":1,\"open\":{\"file\":\"a\",\"encoding\":\"utf8\"},\"sessions\":[[]]}\n\
-BadShape {\"version\":1,\"open\":{\"text\":0},\"sessions\":[[]]}\n\
-BadShape {\"version\":1,\"open\":{\"text\":\"\"},\"sessions\":[]}\n\
-BadShape {\"version\":1,\"open\":{\"text\":\"\"},\"sessions\":[[],[]]}\n\
-BadShape {\"version\":1,\"open\":{\"text\":\"\"},\"sessions\":[{}]}\n\
-BadShape {\"version\":1,\"open\":{\"text\":\"\"},\"sessions\":[[0]]}\n\
-BadShape \"edit\"\n\
-BadShape []";
+0 0 NotJson|\n\
+0 0 NotJson|{\"version\":1,\n\
+0 0 NotJson|{} {}\n\
+0 0 NotJson|{\"version\":1,\"open\":{\"text\":\"\\ud800\"},\"sessions\":[[]]}\n\
+read|{\"version\":1,\"open\":{\"text\":\"\\ud83d\\ude00\"},\"sessions\":[[]]}\n\
+0 0 BadShape|{\"version\":1,\"open\":{\"text\":\"\"},\"sessions\":[[]],\"more\":0}\n\
+0 0 BadShape|{\"version\":1,\"open\":{\"text\":\"\"},\"session\":[[]]}\n\
+0 0 BadShape|{\"version\":1,\"open\":{\"text\":\"\"}}\n\
+0 0 BadShape|{\"version\":1,\"sessions\":[[]]}\n\
+0 0 BadShape|{\"open\":{\"text\":\"\"},\"sessions\":[[]]}\n\
+read|{\"version\":2,\"version\":1,\"open\":{\"text\":\"\"},\"sessions\":[[]]}\n\
+0 0 BadShape|{\"version\":1,\"version\":2,\"open\":{\"text\":\"\"},\"sessions\":[[]]}\n\
+0 0 BadShape|{\"version\":1.0,\"open\":{\"text\":\"\"},\"sessions\":[[]]}\n\
+0 0 BadShape|{\"version\":1e0,\"open\":{\"text\":\"\"},\"sessions\":[[]]}\n\
+0 0 BadShape|{\"version\":-1,\"open\":{\"text\":\"\"},\"sessions\":[[]]}\n\
+0 0 BadShape|{\"version\":0,\"open\":{\"text\":\"\"},\"sessions\":[[]]}\n\
+0 0 BadShape|{\"version\":2,\"open\":{\"text\":\"\"},\"sessions\":[[]]}\n\
+0 0 BadShape|{\"version\":3,\"open\":{\"text\":\"\"},\"sessions\":[[]]}\n\
+0 0 BadShape|{\"version\":\"1\",\"open\":{\"text\":\"\"},\"sessions\":[[]]}\n\
+0 0 BadShape|{\"version\":null,\"open\":{\"text\":\"\"},\"sessions\":[[]]}\n\
+0 0 BadShape|{\"version\":1.5,\"open\":{\"text\":\"\"},\"sessions\":[[]]}\n\
+0 0 BadShape|{\"version\":1,\"open\":{\"file\":\"a\",\"encoding\":\"utf8\"},\"sessions\":[[]]}\n\
+0 0 BadShape|{\"version\":1,\"open\":{\"file\":\".a\",\"encoding\":\"ascii\"},\"sessions\":[[]]}\n\
+0 0 BadShape|{\"version\":1,\"open\":{\"text\":0},\"sessions\":[[]]}\n\
+0 0 BadShape|{\"version\":1,\"open\":{\"text\":null},\"sessions\":[[]]}\n\
+0 0 BadShape|{\"version\":1,\"open\":{},\"sessions\":[[]]}\n\
+0 0 BadShape|{\"version\":1,\"open\":\"text\",\"sessions\":[[]]}\n\
+0 0 BadShape|{\"version\":1,\"open\":{\"text\":\"\",\"encoding\":\"utf8\"},\"sessions\":[[]]}\n\
+0 0 BadShape|{\"version\":1,\"open\":{\"text\":\"\",\"file\":\"a\"},\"sessions\":[[]]}\n\
+0 0 BadShape|{\"version\":1,\"open\":[\"\"],\"sessions\":[[]]}\n\
+0 0 BadShape|{\"version\":1,\"open\":{\"text\":\"\"},\"sessions\":[]}\n\
+0 0 BadShape|{\"version\":1,\"open\":{\"text\":\"\"},\"sessions\":[[],[]]}\n\
+0 0 BadShape|{\"version\":1,\"open\":{\"text\":\"\"},\"sessions\":[[],[],[],[],[],[],[],[],[]]}\n\
+0 0 BadShape|{\"version\":1,\"open\":{\"text\":\"\"},\"sessions\":{}}\n\
+0 0 BadShape|{\"version\":1,\"open\":{\"text\":\"\"},\"sessions\":null}\n\
+0 0 BadShape|{\"version\":1,\"open\":{\"text\":\"\"},\"sessions\":[{}]}\n\
+0 0 BadShape|{\"version\":1,\"open\":{\"text\":\"\"},\"sessions\":[null]}\n\
+0 0 BadShape|{\"version\":1,\"open\":{\"text\":\"\"},\"sessions\":[[],0]}\n\
+0 0 BadShape|{\"version\":1,\"open\":{\"text\":\"\"},\"sessions\":\"[]\"}\n\
+1 1 BadShape|{\"version\":1,\"open\":{\"text\":\"\"},\"sessions\":[[0]]}\n\
+0 0 BadShape|\"edit\"\n\
+0 0 BadShape|[]\n\
+0 0 BadShape|null\n\
+0 0 BadShape|{}\n\
+0 0 BadShape|{\"version\":2,\"open\":{\"text\":\"\"},\"sessions\":[[{\"do\":\"text\",\"range\":[0,0,0,0],\"limit\":-1}]]}\n\
+0 0 BadShape|{\"version\":1,\"open\":{\"text\":0},\"sessions\":[[null]]}\n\
+0 0 BadShape|{\"version\":1,\"open\":{\"text\":\"\"},\"sessions\":[[null],[]]}";
 
 #[test]
-fn refuses_odd_documents(rt: HostRuntime) {
+fn places_faults_of_documents(rt: HostRuntime) {
     for row in DOCUMENTS.split('\n') {
         assert!(rt; holds(rt.alloc(), row), "{row}");
     }
@@ -73,12 +105,12 @@ const WITH_BLANKS: &[u8] =
 
 #[test]
 fn refuses_bytes_that_are_no_text(rt: HostRuntime) {
-    assert!(rt; breaks(rt.alloc(), NOT_UTF8, "NotJson"));
+    assert!(rt; ends(rt.alloc(), NOT_UTF8, "0 0 NotJson"));
 }
 
 #[test]
 fn reads_blanks_and_other_orders(rt: HostRuntime) {
-    assert!(rt; breaks(rt.alloc(), WITH_BLANKS, "none"));
+    assert!(rt; ends(rt.alloc(), WITH_BLANKS, "read"));
 }
 
 // A script of one session with these commands.
@@ -86,55 +118,134 @@ fn with_commands(alloc: Global, commands: &str) -> Result<String, AllocError> {
     format!(in alloc; "{{\"version\":1,\"open\":{{\"text\":\"\"}},\"sessions\":[[{commands}]]}}")
 }
 
-// Whether a script with these commands breaks the rule.
-fn command_breaks(alloc: Global, commands: &str, rule: &str) -> bool {
+fn commands_end(alloc: Global, commands: &str, wanted: &str) -> bool {
     match with_commands(alloc, commands) {
-        Ok(document) => breaks(alloc, document.as_bytes(), rule),
+        Ok(document) => ends(alloc, document.as_bytes(), wanted),
         Err(_) => false,
     }
 }
 
-// A row of a table: the name of a rule, a blank and a command.
-fn command_holds(alloc: Global, row: &str) -> bool {
-    match row.split_once(' ') {
-        Some((rule, command)) => command_breaks(alloc, command, rule),
+// A row of a table: what is wanted, a bar and the commands of a session.
+fn commands_hold(alloc: Global, row: &str) -> bool {
+    match row.split_once('|') {
+        Some((wanted, commands)) => commands_end(alloc, commands, wanted),
         None => false,
     }
 }
 
+// Edits; looks and their limits; numbers that aren't whole; ranges; words that aren't built or that no command has;
+// a command that is no object. Then two rules at one place, where the lower one is told; and faults at several
+// places, where the first place is told, whatever its rule.
 const COMMANDS: &str = "\
-none {\"do\":\"edit\",\"range\":[0,0,0,0],\"text\":\"\"}\n\
-BadShape {\"do\":\"edit\",\"range\":[0,0,0,0],\"text\":0}\n\
-BadShape {\"do\":\"edit\",\"range\":[0,0,0,0]}\n\
-BadShape {\"do\":\"edit\",\"range\":[0,0,0,0],\"limit\":0}\n\
-BadShape {\"do\":\"edit\",\"range\":[0,0,0,0],\"text\":\"\",\"limit\":0}\n\
-BadShape {\"do\":\"text\",\"range\":[0,0,0,0],\"text\":\"\"}\n\
-BadShape {\"do\":\"undo\",\"range\":[0,0,0,0],\"text\":\"\"}\n\
-BadShape {\"do\":\"Edit\",\"range\":[0,0,0,0],\"text\":\"\"}\n\
-BadShape {\"do\":0,\"range\":[0,0,0,0],\"text\":\"\"}\n\
-none {\"do\":\"text\",\"range\":[0,0,0,0],\"limit\":65536}\n\
-BadShape {\"do\":\"text\",\"range\":[0,0,0,0],\"limit\":65537}\n\
-BadShape {\"do\":\"text\",\"range\":[0,0,0,0],\"limit\":-1}\n\
-BadShape {\"do\":\"text\",\"range\":[0,0,0,0],\"limit\":1.0}\n\
-NotJson {\"do\":\"text\",\"range\":[0,0,0,0],\"limit\":1e400}\n\
-BadShape {\"do\":\"text\",\"range\":[0,0,0,0],\"limit\":0e400}\n\
-BadShape {\"do\":\"text\",\"range\":[0,0,0,0],\"limit\":18446744073709551616}\n\
-none {\"do\":\"text\",\"range\":[0,0,1073741824,1073741824],\"limit\":0}\n\
-BadShape {\"do\":\"text\",\"range\":[0,0,1073741825,0],\"limit\":0}\n\
-BadShape {\"do\":\"text\",\"range\":[0,0,0,1073741825],\"limit\":0}\n\
-BadShape {\"do\":\"text\",\"range\":[0,-0,0,0],\"limit\":0}\n\
-BadShape {\"do\":\"text\",\"range\":[0,0,0],\"limit\":0}\n\
-BadShape {\"do\":\"text\",\"range\":[0,0,0,0,0],\"limit\":0}\n\
-BadShape {\"do\":\"text\",\"range\":[1,0,0,9],\"limit\":0}\n\
-BadShape {\"do\":\"text\",\"range\":[0,2,0,1],\"limit\":0}\n\
-BadShape {\"do\":\"undo\"}\n\
-BadShape {\"do\":\"squash\"}\n\
-BadShape {\"do\":\"take\",\"snapshot\":0}";
+read|\n\
+read|{\"do\":\"edit\",\"range\":[0,0,0,0],\"text\":\"\"}\n\
+1 1 BadShape|{\"do\":\"edit\",\"range\":[0,0,0,0],\"text\":0}\n\
+1 1 BadShape|{\"do\":\"edit\",\"range\":[0,0,0,0],\"text\":null}\n\
+1 1 BadShape|{\"do\":\"edit\",\"range\":[0,0,0,0],\"text\":[]}\n\
+1 1 BadShape|{\"do\":\"edit\",\"range\":[0,0,0,0]}\n\
+1 1 BadShape|{\"do\":\"edit\",\"text\":\"\"}\n\
+1 1 BadShape|{\"range\":[0,0,0,0],\"text\":\"\"}\n\
+1 1 BadShape|{\"do\":\"edit\",\"range\":[0,0,0,0],\"limit\":0}\n\
+1 1 BadShape|{\"do\":\"edit\",\"range\":[0,0,0,0],\"text\":\"\",\"limit\":0}\n\
+1 1 BadShape|{\"do\":\"text\",\"range\":[0,0,0,0],\"text\":\"\"}\n\
+1 1 BadShape|{\"do\":\"undo\",\"range\":[0,0,0,0],\"text\":\"\"}\n\
+1 1 BadShape|{\"do\":\"Edit\",\"range\":[0,0,0,0],\"text\":\"\"}\n\
+1 1 BadShape|{\"do\":0,\"range\":[0,0,0,0],\"text\":\"\"}\n\
+1 1 BadShape|{\"do\":\"\",\"range\":[0,0,0,0],\"text\":\"\"}\n\
+1 1 BadShape|{}\n\
+1 1 BadShape|0\n\
+1 1 BadShape|null\n\
+1 1 BadShape|[]\n\
+1 1 BadShape|\"edit\"\n\
+1 1 BadShape|true\n\
+read|{\"do\":\"text\",\"range\":[0,0,0,0],\"limit\":0}\n\
+read|{\"do\":\"text\",\"range\":[0,0,0,0],\"limit\":65536}\n\
+1 1 BadNumber|{\"do\":\"text\",\"range\":[0,0,0,0],\"limit\":65537}\n\
+1 1 BadNumber|{\"do\":\"text\",\"range\":[0,0,0,0],\"limit\":-1}\n\
+1 1 BadNumber|{\"do\":\"text\",\"range\":[0,0,0,0],\"limit\":1.0}\n\
+1 1 BadNumber|{\"do\":\"text\",\"range\":[0,0,0,0],\"limit\":1e0}\n\
+1 1 BadNumber|{\"do\":\"text\",\"range\":[0,0,0,0],\"limit\":0.5}\n\
+1 1 BadNumber|{\"do\":\"text\",\"range\":[0,0,0,0],\"limit\":-0}\n\
+1 1 BadNumber|{\"do\":\"text\",\"range\":[0,0,0,0],\"limit\":0e400}\n\
+1 1 BadNumber|{\"do\":\"text\",\"range\":[0,0,0,0],\"limit\":1e-400}\n\
+1 1 BadNumber|{\"do\":\"text\",\"range\":[0,0,0,0],\"limit\":4294967296}\n\
+1 1 BadNumber|{\"do\":\"text\",\"range\":[0,0,0,0],\"limit\":18446744073709551615}\n\
+1 1 BadNumber|{\"do\":\"text\",\"range\":[0,0,0,0],\"limit\":18446744073709551616}\n\
+1 1 BadNumber|{\"do\":\"text\",\"range\":[0,0,0,0],\"limit\":-9223372036854775809}\n\
+0 0 NotJson|{\"do\":\"text\",\"range\":[0,0,0,0],\"limit\":1e400}\n\
+1 1 BadShape|{\"do\":\"text\",\"range\":[0,0,0,0],\"limit\":\"0\"}\n\
+1 1 BadShape|{\"do\":\"text\",\"range\":[0,0,0,0],\"limit\":null}\n\
+1 1 BadShape|{\"do\":\"text\",\"range\":[0,0,0,0],\"limit\":[0]}\n\
+1 1 BadShape|{\"do\":\"text\",\"range\":[0,0,0,0],\"limit\":true}\n\
+1 1 BadShape|{\"do\":\"text\",\"range\":[0,0,0,0]}\n\
+1 1 BadShape|{\"do\":\"text\",\"range\":[0,0,0,0],\"limit\":0,\"snapshot\":0}\n\
+read|{\"do\":\"text\",\"range\":[0,0,1073741824,1073741824],\"limit\":0}\n\
+read|{\"do\":\"text\",\"range\":[3,4,3,4],\"limit\":0}\n\
+1 1 BadNumber|{\"do\":\"text\",\"range\":[0,0,1073741825,0],\"limit\":0}\n\
+1 2 BadNumber|{\"do\":\"edit\",\"range\":[0,0,0,0],\"text\":\"\"},{\"do\":\"edit\",\"range\":[0,0,1073741825,0],\"text\":\"\"}\n\
+1 1 BadNumber|{\"do\":\"text\",\"range\":[0,0,0,1073741825],\"limit\":0}\n\
+1 2 BadNumber|{\"do\":\"edit\",\"range\":[0,0,0,0],\"text\":\"\"},{\"do\":\"edit\",\"range\":[0,0,0,1073741825],\"text\":\"\"}\n\
+1 1 BadNumber|{\"do\":\"text\",\"range\":[1073741825,0,1073741825,0],\"limit\":0}\n\
+1 2 BadNumber|{\"do\":\"edit\",\"range\":[0,0,0,0],\"text\":\"\"},{\"do\":\"edit\",\"range\":[1073741825,0,1073741825,0],\"text\":\"\"}\n\
+1 1 BadNumber|{\"do\":\"text\",\"range\":[0,-0,0,0],\"limit\":0}\n\
+1 2 BadNumber|{\"do\":\"edit\",\"range\":[0,0,0,0],\"text\":\"\"},{\"do\":\"edit\",\"range\":[0,-0,0,0],\"text\":\"\"}\n\
+1 1 BadNumber|{\"do\":\"text\",\"range\":[0,0,0,1.0],\"limit\":0}\n\
+1 2 BadNumber|{\"do\":\"edit\",\"range\":[0,0,0,0],\"text\":\"\"},{\"do\":\"edit\",\"range\":[0,0,0,1.0],\"text\":\"\"}\n\
+1 1 BadNumber|{\"do\":\"text\",\"range\":[0,0,0,1e0],\"limit\":0}\n\
+1 2 BadNumber|{\"do\":\"edit\",\"range\":[0,0,0,0],\"text\":\"\"},{\"do\":\"edit\",\"range\":[0,0,0,1e0],\"text\":\"\"}\n\
+1 1 BadNumber|{\"do\":\"text\",\"range\":[-1,0,0,0],\"limit\":0}\n\
+1 2 BadNumber|{\"do\":\"edit\",\"range\":[0,0,0,0],\"text\":\"\"},{\"do\":\"edit\",\"range\":[-1,0,0,0],\"text\":\"\"}\n\
+1 1 BadNumber|{\"do\":\"text\",\"range\":[0,0.5,1,0],\"limit\":0}\n\
+1 2 BadNumber|{\"do\":\"edit\",\"range\":[0,0,0,0],\"text\":\"\"},{\"do\":\"edit\",\"range\":[0,0.5,1,0],\"text\":\"\"}\n\
+1 1 BadNumber|{\"do\":\"text\",\"range\":[1,0,0,9],\"limit\":0}\n\
+1 2 BadNumber|{\"do\":\"edit\",\"range\":[0,0,0,0],\"text\":\"\"},{\"do\":\"edit\",\"range\":[1,0,0,9],\"text\":\"\"}\n\
+1 1 BadNumber|{\"do\":\"text\",\"range\":[0,2,0,1],\"limit\":0}\n\
+1 2 BadNumber|{\"do\":\"edit\",\"range\":[0,0,0,0],\"text\":\"\"},{\"do\":\"edit\",\"range\":[0,2,0,1],\"text\":\"\"}\n\
+1 1 BadNumber|{\"do\":\"text\",\"range\":[0,0,18446744073709551616,0],\"limit\":0}\n\
+1 2 BadNumber|{\"do\":\"edit\",\"range\":[0,0,0,0],\"text\":\"\"},{\"do\":\"edit\",\"range\":[0,0,18446744073709551616,0],\"text\":\"\"}\n\
+1 1 BadShape|{\"do\":\"text\",\"range\":[0,0,0],\"limit\":0}\n\
+1 1 BadShape|{\"do\":\"text\",\"range\":[0,0,0,0,0],\"limit\":0}\n\
+1 1 BadShape|{\"do\":\"text\",\"range\":[],\"limit\":0}\n\
+1 1 BadShape|{\"do\":\"text\",\"range\":[0,0,0,\"0\"],\"limit\":0}\n\
+1 1 BadShape|{\"do\":\"text\",\"range\":[0,0,null,0],\"limit\":0}\n\
+1 1 BadShape|{\"do\":\"text\",\"range\":{\"start\":[0,0],\"end\":[0,0]},\"limit\":0}\n\
+1 1 BadShape|{\"do\":\"text\",\"range\":0,\"limit\":0}\n\
+1 1 BadShape|{\"do\":\"text\",\"range\":null,\"limit\":0}\n\
+1 1 BadShape|{\"do\":\"text\",\"range\":[[0,0],[0,0]],\"limit\":0}\n\
+1 2 BadShape|{\"do\":\"edit\",\"range\":[0,0,0,0],\"text\":\"\"},{\"do\":\"edit\",\"range\":[0,0,0],\"text\":\"\"}\n\
+1 2 BadShape|{\"do\":\"edit\",\"range\":[0,0,0,0],\"text\":\"\"},{\"do\":\"undo\"}\n\
+1 2 BadShape|{\"do\":\"edit\",\"range\":[0,0,0,0],\"text\":\"\"},{\"do\":\"redo\"}\n\
+1 2 BadShape|{\"do\":\"edit\",\"range\":[0,0,0,0],\"text\":\"\"},{\"do\":\"squash\"}\n\
+1 2 BadShape|{\"do\":\"edit\",\"range\":[0,0,0,0],\"text\":\"\"},{\"do\":\"take\",\"snapshot\":0}\n\
+1 2 BadShape|{\"do\":\"edit\",\"range\":[0,0,0,0],\"text\":\"\"},{\"do\":\"release\",\"snapshot\":0}\n\
+1 2 BadShape|{\"do\":\"edit\",\"range\":[0,0,0,0],\"text\":\"\"},{\"do\":\"read\",\"snapshot\":0,\"reads\":[]}\n\
+1 2 BadShape|{\"do\":\"edit\",\"range\":[0,0,0,0],\"text\":\"\"},{\"do\":\"send\",\"snapshot\":-1,\"reads\":[]}\n\
+1 2 BadShape|{\"do\":\"edit\",\"range\":[0,0,0,0],\"text\":\"\"},{\"do\":\"mark\",\"id\":-1,\"range\":[1,0,0,0],\"exclusive\":true}\n\
+1 2 BadShape|{\"do\":\"edit\",\"range\":[0,0,0,0],\"text\":\"\"},{\"do\":\"unmark\",\"id\":0}\n\
+1 2 BadShape|{\"do\":\"edit\",\"range\":[0,0,0,0],\"text\":\"\"},{\"do\":\"exclusive\",\"id\":0,\"value\":true}\n\
+1 2 BadShape|{\"do\":\"edit\",\"range\":[0,0,0,0],\"text\":\"\"},{\"do\":\"range\",\"id\":0}\n\
+1 2 BadShape|{\"do\":\"edit\",\"range\":[0,0,0,0],\"text\":\"\"},{\"do\":\"marks\",\"how\":\"containing\",\"range\":[0,0,0,0]}\n\
+1 2 BadShape|{\"do\":\"edit\",\"range\":[0,0,0,0],\"text\":\"\"},{\"do\":\"compare\",\"a\":0,\"b\":0}\n\
+1 2 BadShape|{\"do\":\"edit\",\"range\":[0,0,0,0],\"text\":\"\"},{\"do\":\"watch\",\"id\":0}\n\
+1 2 BadShape|{\"do\":\"edit\",\"range\":[0,0,0,0],\"text\":\"\"},{\"do\":\"unwatch\",\"id\":0}\n\
+1 2 BadShape|{\"do\":\"edit\",\"range\":[0,0,0,0],\"text\":\"\"},{\"do\":\"batch\",\"edits\":[]}\n\
+1 1 BadShape|{\"do\":\"text\",\"range\":[1,0,0,0],\"limit\":\"x\"}\n\
+1 1 BadShape|{\"do\":\"text\",\"range\":[0,0,0],\"limit\":65537}\n\
+1 1 BadShape|{\"do\":\"edit\",\"range\":[1,0,0,0],\"text\":0}\n\
+1 1 BadShape|{\"do\":\"text\",\"range\":[1,0,0,9]}\n\
+1 1 BadShape|{\"do\":\"text\",\"range\":[0,0,0,0],\"limit\":-1,\"more\":0}\n\
+1 1 BadNumber|{\"do\":\"text\",\"range\":[1,0,0,0],\"limit\":65537}\n\
+1 1 BadNumber|{\"do\":\"text\",\"range\":[0,0,0,0],\"limit\":-1},null\n\
+1 1 BadNumber|{\"do\":\"edit\",\"range\":[1,0,0,0],\"text\":\"\"},{\"do\":\"undo\"}\n\
+1 2 BadShape|{\"do\":\"edit\",\"range\":[0,0,0,0],\"text\":\"\"},null,{\"do\":\"text\",\"range\":[0,0,0,0],\"limit\":-1}\n\
+1 3 BadNumber|{\"do\":\"edit\",\"range\":[0,0,0,0],\"text\":\"\"},{\"do\":\"edit\",\"range\":[0,0,0,0],\"text\":\"\"},{\"do\":\"text\",\"range\":[0,0,0,0],\"limit\":-1},0\n\
+1 2 BadShape|{\"do\":\"text\",\"range\":[0,0,0,0],\"limit\":0},{\"do\":\"undo\"},{\"do\":\"text\",\"range\":[0,0,0,0],\"limit\":-1}\n\
+0 0 NotJson|{\"do\":\"text\",\"range\":[0,0,0,0],\"limit\":-1},";
 
 #[test]
-fn refuses_odd_commands(rt: HostRuntime) {
+fn places_faults_of_commands(rt: HostRuntime) {
     for row in COMMANDS.split('\n') {
-        assert!(rt; command_holds(rt.alloc(), row), "{row}");
+        assert!(rt; commands_hold(rt.alloc(), row), "{row}");
     }
 }
 
@@ -150,42 +261,102 @@ fn nested(alloc: Global, depth: usize) -> Result<Vec<u8>, AllocError> {
     Ok(document)
 }
 
-fn nested_breaks(alloc: Global, depth: usize, rule: &str) -> bool {
+fn nested_ends(alloc: Global, depth: usize, wanted: &str) -> bool {
     match nested(alloc, depth) {
-        Ok(document) => breaks(alloc, document.as_slice(), rule),
+        Ok(document) => ends(alloc, document.as_slice(), wanted),
         Err(_) => false,
     }
 }
 
 #[test]
 fn nests_at_most_127_deep(rt: HostRuntime) {
-    assert!(rt; nested_breaks(rt.alloc(), 127, "BadShape"));
-    assert!(rt; nested_breaks(rt.alloc(), 128, "NotJson"));
+    assert!(rt; nested_ends(rt.alloc(), 127, "0 0 BadShape"));
+    assert!(rt; nested_ends(rt.alloc(), 128, "0 0 NotJson"));
 }
 
-// This many commands that look at the text.
-fn looks(alloc: Global, count: usize) -> Result<String, AllocError> {
+const EDIT: &str = "{\"do\":\"edit\",\"range\":[0,0,0,0],\"text\":\"\"}";
+
+const LOOK: &str = "{\"do\":\"text\",\"range\":[0,0,0,0],\"limit\":0}";
+
+const BAD_LOOK: &str = "{\"do\":\"text\",\"range\":[0,0,0,0],\"limit\":65537}";
+
+const UNDO: &str = "{\"do\":\"undo\"}";
+
+// This many times one command, and another behind them.
+fn repeated(alloc: Global, command: &str, count: usize, last: &str) -> Result<String, AllocError> {
     let mut commands = String::new(alloc);
-    for i in 0..count {
-        if i != 0 {
-            commands.push_str(",")?;
-        }
-        commands.push_str("{\"do\":\"text\",\"range\":[0,0,0,0],\"limit\":0}")?;
+    for _ in 0..count {
+        commands.push_str(command)?;
+        commands.push_str(",")?;
     }
+    commands.push_str(last)?;
     Ok(commands)
 }
 
-fn looks_break(alloc: Global, count: usize, rule: &str) -> bool {
-    match looks(alloc, count) {
-        Ok(commands) => command_breaks(alloc, commands.as_str(), rule),
+fn repeated_end(alloc: Global, command: &str, count: usize, last: &str, wanted: &str) -> bool {
+    match repeated(alloc, command, count, last) {
+        Ok(commands) => commands_end(alloc, commands.as_str(), wanted),
+        Err(_) => false,
+    }
+}
+
+// There is too much with one more; a shape is broken before that, and a number after it.
+#[test]
+fn counts_the_texts_that_a_script_asks_for(rt: HostRuntime) {
+    let rows = [
+        (4_095, LOOK, "read"),
+        (4_096, LOOK, "1 4097 TooMany"),
+        (4_096, BAD_LOOK, "1 4097 TooMany"),
+        (4_095, BAD_LOOK, "1 4096 BadNumber"),
+        (4_096, UNDO, "1 4097 BadShape"),
+        (4_096, EDIT, "read"),
+    ];
+    for (count, last, wanted) in rows {
+        assert!(rt;
+            repeated_end(rt.alloc(), LOOK, count, last, wanted),
+            "{wanted}"
+        );
+    }
+}
+
+#[test]
+fn counts_the_commands_of_a_script(rt: HostRuntime) {
+    let rows = [
+        (65_535, EDIT, "read"),
+        (65_536, BAD_LOOK, "1 65537 TooMany"),
+    ];
+    for (count, last, wanted) in rows {
+        assert!(rt;
+            repeated_end(rt.alloc(), EDIT, count, last, wanted),
+            "{wanted}"
+        );
+    }
+}
+
+// A script that opens with this many units, and whose one command has a fault.
+fn opening_with(alloc: Global, units: usize, command: &str) -> Result<String, AllocError> {
+    let mut document = String::new(alloc);
+    document.push_str("{\"version\":1,\"open\":{\"text\":\"")?;
+    for _ in 0..units {
+        document.push_str("a")?;
+    }
+    document.push_str("\"},\"sessions\":[[")?;
+    document.push_str(command)?;
+    document.push_str("]]}")?;
+    Ok(document)
+}
+
+fn opening_ends(alloc: Global, units: usize, command: &str, wanted: &str) -> bool {
+    match opening_with(alloc, units, command) {
+        Ok(document) => ends(alloc, document.as_bytes(), wanted),
         Err(_) => false,
     }
 }
 
 #[test]
-fn counts_the_texts_that_a_script_asks_for(rt: HostRuntime) {
-    assert!(rt; looks_break(rt.alloc(), 4_096, "none"));
-    assert!(rt; looks_break(rt.alloc(), 4_097, "BadShape"));
+fn measures_the_opening_text(rt: HostRuntime) {
+    assert!(rt; opening_ends(rt.alloc(), 16_777_216, BAD_LOOK, "1 1 BadNumber"));
+    assert!(rt; opening_ends(rt.alloc(), 16_777_217, BAD_LOOK, "0 0 TooMany"));
 }
 
 // An edit that inserts `hi` into an empty text, and a look at it.

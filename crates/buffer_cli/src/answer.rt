@@ -1,6 +1,6 @@
 //! From the bytes of a script to those of its transcript: they are read, the commands of the one session are answered
 //! in turn, and the replies are written.
-ghost use Rattle.std.specs.Prelude.{◌≡◌, ◌+◌, ◌<◌, length, true, Some, IfOk, IfErr, OnOk, OnErr};
+ghost use Rattle.std.specs.Prelude.{◌≡◌, ◌+◌, ◌<◌, length, true, Some, None, IfOk, IfErr, OnOk, OnErr};
 ghost use Rattle.std.specs.List.{AllByRecursion};
 ghost use Rattle.points.specs.Text.{utf16_of};
 ghost use Rattle.machine.specs.Answers.{opening_text};
@@ -19,6 +19,7 @@ use std::alloc::Global;
 /// The text of a lawful transcript of the script with these bytes.
 pub(crate) fn answer(alloc: Global, bytes: Vec<u8>) -> Result<Vec<u8>, ScriptRefusal>
     ensures ok { IfOk result (λ text. IsAnswer bytes.items text.items) }
+    ensures kept { IfOk result (λ text. script_place bytes.items ≡ None) }
     ensures refused { IfErr result (IsRefusalAt (script_place bytes.items)) }
 {
     let script = read_script(alloc, bytes.as_slice())?;

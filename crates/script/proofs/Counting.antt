@@ -9,7 +9,7 @@ use Rattle.serde_json.specs.Find.{as_array, as_object}
 use Rattle.serde_json.specs.View.{items_view, members_view}
 use Rattle.serde_json.specs.declared.value.Value.{Value}
 
-count_items-items_view : (vs : List Value) → count_items (items_view vs) ≡ length vs
+pub count_items-items_view : (vs : List Value) → count_items (items_view vs) ≡ length vs
 count_items-items_view [] = refl
 count_items-items_view (v ∷ vs) = ap suc (count_items-items_view vs)
 

@@ -1,18 +1,19 @@
 -- Which bytes are a document, and how it is refused.
-use Rattle.std.proofs.Common.{◌≡◌, ℕ, List, Bool, true, false, Option, Some, None, cond, refl, subst}
+use Rattle.std.proofs.Common.{◌≡◌, ℕ, List, Bool, true, false, Option, Some, None, is_some, cond, Result, Ok, Err, refl}
+use Rattle.std.specs.Prelude.{IfOk, IfErr}
 use Rattle.std.specs.Str.{IsUtf8, is_utf8}
-use Rattle.std.proofs.lemmas.Option.{cond_some, option_and_then_some}
+use Rattle.std.proofs.lemmas.Option.{none-some}
 use Rattle.std.proofs.lemmas.Str.{is_utf8-from_IsUtf8, IsUtf8-from_is_utf8}
 use Rattle.machine.specs.declared.command.Script.{Script}
 use Rattle.script.specs.declared.refusal.ScriptRefusal.{ScriptRefusal}
 use Rattle.script.specs.declared.refusal.ScriptRefusal.TheVariants.{Refused}
-use Rattle.script.specs.declared.refusal.ScriptRule.TheVariants.{NotJson, BadShape}
-use Rattle.script.specs.Limits.{is_within, IsWithinLimits}
-use Rattle.script.specs.ScriptDocument.{reading, only_within, reading_within, script_of, document, script_in, script_place, IsRefusalAt}
+use Rattle.script.specs.declared.refusal.ScriptRule.TheVariants.{NotJson}
+use Rattle.script.specs.Limits.{IsWithinLimits}
+use Rattle.script.specs.Rules.{Fault, built_place}
+use Rattle.script.specs.ScriptDocument.{reading, script_of, document, script_in, script_place, IsRefusalAt}
 use Rattle.script.proofs.KeyOrder.{document_in_order}
 use Rattle.script.proofs.LimitLemmas.{within_limits}
-use Rattle.script.proofs.RuleLemmas.{script_found, script_not_found}
-use Rattle.script.proofs.ScriptExact.{reading_exact}
+use Rattle.script.proofs.RuleLemmas.{read_within}
 use Rattle.serde_json.specs.Data.{Data}
 use Rattle.serde_json.specs.Read.{read}
 
@@ -30,22 +31,31 @@ pub no_document : (bytes : List ℕ) → (IsUtf8 bytes → read bytes ≡ None) 
 unfolding document
 no_document bytes h = unless_utf8 bytes (is_utf8 bytes) refl h
 
--- what was read within the limits
-pub script_from : (bytes : List ℕ) (d : Data) (s : Script) → document bytes ≡ Some d → reading_within d ≡ Some s → script_in bytes ≡ Some s
-script_from bytes d s is e = rw is (script_found d s (document_in_order bytes d is) e)
+-- what was read
+pub script_read : (bytes : List ℕ) (d : Data) (r : Result Script ScriptRefusal) → document bytes ≡ Some d → IfOk r (λ s. script_of d ≡ Some s) → IfOk r (λ s. script_in bytes ≡ Some s)
+script_read bytes d (Ok s) is e = rw is e
+script_read bytes d (Err refusal) is e = tt
 
-pub limits_from : (bytes : List ℕ) (d : Data) (s : Script) → document bytes ≡ Some d → reading_within d ≡ Some s → IsWithinLimits s
-limits_from bytes d s is e =
-    option_and_then_some only_within (reading d) s e (λ t read ends.
-    let parts = cond_some (is_within t) t s ends in
-    subst IsWithinLimits parts.1 (within_limits t (reading_exact d t (document_in_order bytes d is) read).1 parts.0))
+pub limits_kept : (bytes : List ℕ) (d : Data) (r : Result Script ScriptRefusal) → document bytes ≡ Some d → IfOk r (λ s. script_of d ≡ Some s) → IfOk r (λ s. IsWithinLimits s)
+limits_kept bytes d (Ok s) is e = let within = read_within d s (document_in_order bytes d is) e in within_limits s within.0 within.1
+limits_kept bytes d (Err refusal) is e = tt
+
+no_place : (o : Option Fault) (p : Option Script) (s : Script) → cond (is_some o) None p ≡ Some s → o ≡ None
+no_place None p s e = refl
+no_place (Some x) p s e = absurd (none-some s e)
+
+place_kept : (d : Data) (s : Script) → script_of d ≡ Some s → built_place d ≡ None
+unfolding script_of
+place_kept d s e = no_place (built_place d) (reading d) s e
+
+pub script_kept : (bytes : List ℕ) (d : Data) (r : Result Script ScriptRefusal) → document bytes ≡ Some d → IfOk r (λ s. script_of d ≡ Some s) → IfOk r (λ s. script_place bytes ≡ None)
+script_kept bytes d (Ok s) is e = rw is (place_kept d s e)
+script_kept bytes d (Err refusal) is e = tt
 
 -- the refusals
 pub not_json : (bytes : List ℕ) (r : ScriptRefusal) → document bytes ≡ None → r ≡ Refused 0 0 NotJson → IsRefusalAt (script_place bytes) r
 not_json bytes r none is = rw (is, none) refl
 
-no_script : (bytes : List ℕ) (d : Data) (r : ScriptRefusal) → document bytes ≡ Some d → script_of d ≡ None → r ≡ Refused 0 0 BadShape → IsRefusalAt (script_place bytes) r
-no_script bytes d r some none is = rw (is, some, none) refl
-
-pub bad_shape : (bytes : List ℕ) (d : Data) (r : ScriptRefusal) → document bytes ≡ Some d → reading_within d ≡ None → r ≡ Refused 0 0 BadShape → IsRefusalAt (script_place bytes) r
-bad_shape bytes d r some none is = no_script bytes d r some (script_not_found d (document_in_order bytes d some) none) is
+pub refused_at : (bytes : List ℕ) (d : Data) (r : Result Script ScriptRefusal) → document bytes ≡ Some d → IfErr r (IsRefusalAt (built_place d)) → IfErr r (IsRefusalAt (script_place bytes))
+refused_at bytes d (Ok s) is h = tt
+refused_at bytes d (Err refusal) is h = rw is h

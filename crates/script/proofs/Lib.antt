@@ -8,6 +8,8 @@ pub mod ScriptAgain
 pub mod ScriptExact
 pub mod RuleLemmas
 pub mod RuleRows
+pub mod CommandPlaces
+pub mod DocumentPlaces
 pub mod Documents
 pub mod Apart
 pub mod Whole

@@ -1,10 +1,10 @@
 -- The value of a script of what is built has no place that breaks a rule exactly where the script is within its limits.
-use Rattle.std.proofs.Common.{◌≡◌, ◌+◌, ◌≤◌, ◌++◌, ◌&&◌, ◌||◌, not, ℕ, List, [], ◌∷◌, length, map, drop, count_by, Bool, true, false, cond, Option, Some, None, option_map, option_and_then, is_some, refl, sym, subst, ◌∙◌, arith, length-append}
+use Rattle.std.proofs.Common.{◌≡◌, ◌+◌, ◌≤◌, ◌++◌, ◌&&◌, ◌||◌, not, ℕ, List, [], ◌∷◌, length, map, drop, count_by, Bool, true, false, cond, Option, Some, None, option_map, is_some, refl, sym, subst, arith, length-append}
 use Rattle.std.specs.Prelude.{nat_lt, nat_le, ◌==◌, codes}
 use Rattle.std.specs.List.{AllByRecursion, list_all}
 use Rattle.std.specs.Option.{option_or}
 use Rattle.std.proofs.lemmas.List.Sums.{sum_by-cons}
-use Rattle.std.proofs.lemmas.Option.{none-some, cond_some, option_and_then_some}
+use Rattle.std.proofs.lemmas.Option.{none-some}
 use Rattle.std.proofs.lemmas.Bool.{leb-true, le-ltb, ltb-false, le-leb, eqb-true, and_parts, and_from, not-false, false≢true}
 use Rattle.points.specs.declared.limits.TheConstants.{MAX_UNITS, MAX_WATCHERS}
 use Rattle.points.specs.declared.range.Range.{Range}
@@ -21,8 +21,8 @@ use Rattle.script.specs.declared.refusal.ScriptRule.{ScriptRule}
 use Rattle.script.specs.declared.refusal.ScriptRule.TheVariants.{BadShape, TooMany, UnknownSnapshot, SnapshotTaken, BadNumber}
 use Rattle.script.specs.Limits.{is_opening_within, is_reading, is_bounded, is_within}
 use Rattle.script.specs.Parts.{member_count, count_items, whole_of, range_of}
-use Rattle.script.specs.ScriptDocument.{reading, only_within, reading_within, script_of}
-use Rattle.script.specs.Rules.{Before, at_start, next, command_tests, command_breaks, wrong_kind, wrong_number, is_too_many, needs_live, is_live, is_do, document_tests, Fault, first_broken, fault_at, is_document, is_version_one, opening_breaks, are_sessions, sessions_in, opened_text, place_in_session, value_place}
+use Rattle.script.specs.ScriptDocument.{reading, script_of}
+use Rattle.script.specs.Rules.{Before, at_start, next, command_tests, command_breaks, wrong_kind, wrong_number, is_too_many, needs_live, is_live, is_do, document_tests, Fault, first_broken, fault_at, is_document, is_version_one, opening_breaks, are_sessions, sessions_in, opened_text, place_in_session, place_by, built_place, is_misshapen, is_misshapen_document, is_unbuilt_document}
 use Rattle.script.specs.ScriptValue.{range_value, command_value, script_value, is_built, BreaksNoRule}
 use Rattle.script.specs.TranscriptDocument.{whole}
 use Rattle.script.proofs.KeyOrder.{IsInKeyOrder}
@@ -36,7 +36,7 @@ use Rattle.serde_json.specs.View.{items_of}
 -- ---- within the limits there is no place
 
 -- few enough of everything
-few : (commands readings saves finds watches : ℕ) → commands ≤ MAX_COMMANDS → readings ≤ MAX_READINGS → saves ≤ MAX_SAVES → finds ≤ MAX_FINDS → watches ≤ MAX_WATCHERS
+pub few : (commands readings saves finds watches : ℕ) → commands ≤ MAX_COMMANDS → readings ≤ MAX_READINGS → saves ≤ MAX_SAVES → finds ≤ MAX_FINDS → watches ≤ MAX_WATCHERS
     → (nat_lt MAX_COMMANDS commands || nat_lt MAX_READINGS readings || nat_lt MAX_SAVES saves || nat_lt MAX_FINDS finds || nat_lt MAX_WATCHERS watches || false) ≡ false
 few commands readings saves finds watches a b c d e = rw (le-ltb MAX_COMMANDS commands a, le-ltb MAX_READINGS readings b, le-ltb MAX_SAVES saves c, le-ltb MAX_FINDS finds d, le-ltb MAX_WATCHERS watches e) refl
 
@@ -57,10 +57,10 @@ step_few b (command.Text range limit) h plain more readings =
     few (b.commands + 1) (b.reading + 1) (length (b.names ++ [])) (b.marks + 0) (b.watches + 0) more readings (omega (arith, plain.names, length-append b.names [])) (omega (arith, plain.finds)) (omega (arith, plain.watches))
 step_few b c h plain more readings = absurd h
 
-step_passes : (b : Before) (c : Command) → IsReadable c → is_too_many b (command_value c) ≡ false → first_broken (command_tests b (command_value c)) ≡ None
-step_passes b (command.Edit range text) h few = rw (few, range_again range h) refl
-step_passes b (command.Text range limit) h few = rw (few, range_again range h.0, le-leb limit MAX_SHOWN h.1) refl
-step_passes b c h few = absurd h
+step_passes : (all : Bool) (b : Before) (c : Command) → IsReadable c → is_too_many b (command_value c) ≡ false → first_broken (command_tests all b (command_value c)) ≡ None
+step_passes all b (command.Edit range text) h few = rw (few, range_again range h) refl
+step_passes all b (command.Text range limit) h few = rw (few, range_again range h.0, le-leb limit MAX_SHOWN h.1) refl
+step_passes all b c h few = absurd h
 
 counts_first : (c : Command) (cs : List Command) → count_by is_reading (c ∷ cs) ≡ readings_of c + count_by is_reading cs
 counts_first c cs = sum_by-cons (λ x. cond (is_reading x) 1 0) c cs
@@ -76,15 +76,15 @@ plain_after b (command.Text range limit) h plain = record { names = omega (arith
 plain_after b c h plain = absurd h
 
 -- the commands of a session, one after another
-commands_pass : (session n : ℕ) (b : Before) (cs : List Command) → AllByRecursion IsReadable cs → IsPlain b → b.commands + length cs ≤ MAX_COMMANDS → b.reading + count_by is_reading cs ≤ MAX_READINGS
-    → place_in_session session n b (items_of (map command_value cs)) ≡ None
-commands_pass session n b [] h plain more readings = refl
-commands_pass session n b (c ∷ cs) h plain more readings =
+commands_pass : (all : Bool) (session n : ℕ) (b : Before) (cs : List Command) → AllByRecursion IsReadable cs → IsPlain b → b.commands + length cs ≤ MAX_COMMANDS → b.reading + count_by is_reading cs ≤ MAX_READINGS
+    → place_in_session all session n b (items_of (map command_value cs)) ≡ None
+commands_pass all session n b [] h plain more readings = refl
+commands_pass all session n b (c ∷ cs) h plain more readings =
     let own : count_by is_reading (c ∷ cs) ≡ readings_of c + count_by is_reading cs = counts_first c cs in
     let few = step_few b c h.0 plain (omega arith) (omega arith) in
     let b' = next b (command_value c) in
     let after : b'.reading ≡ b.reading + readings_of c = reading_after b c h.0 in
-    rw (step_passes b c h.0 few) (commands_pass session (n + 1) b' cs h.1 (plain_after b c h.0 plain) (omega arith) (omega arith))
+    rw (step_passes all b c h.0 few) (commands_pass all session (n + 1) b' cs h.1 (plain_after b c h.0 plain) (omega arith) (omega arith))
 
 -- ---- where there is no place, the script is within the limits
 
@@ -97,10 +97,10 @@ second_and_fifth false false false true e u v w x y ts h = absurd cc
 second_and_fifth false false false false true u v w x y ts h = absurd cc
 second_and_fifth false false false false false u v w x y ts h = (refl, refl)
 
-tests_pass : (b : Before) (d : Data) → first_broken (command_tests b d) ≡ None → (is_too_many b d ≡ false) × (command_breaks wrong_number false d ≡ false)
-tests_pass b d h =
-    second_and_fifth (command_breaks wrong_kind true d) (is_too_many b d) (needs_live d && not (is_live b d)) (is_do (codes "take") d && is_live b d) (command_breaks wrong_number false d)
-    BadShape TooMany UnknownSnapshot SnapshotTaken BadNumber (drop 5 (command_tests b d)) h
+tests_pass : (all : Bool) (b : Before) (d : Data) → first_broken (command_tests all b d) ≡ None → (is_too_many b d ≡ false) × (command_breaks wrong_number false d ≡ false)
+tests_pass all b d h =
+    second_and_fifth (is_misshapen all d) (is_too_many b d) (needs_live d && not (is_live b d)) (is_do (codes "take") d && is_live b d) (command_breaks wrong_number false d)
+    BadShape TooMany UnknownSnapshot SnapshotTaken BadNumber (drop 5 (command_tests all b d)) h
 
 few_back : (a b c d e f : Bool) → (a || b || c || d || e || f) ≡ false → (a ≡ false) × (b ≡ false)
 few_back true b c d e f h = absurd (false≢true (sym h))
@@ -118,11 +118,11 @@ neither : (o p : Option Fault) → option_or o p ≡ None → (o ≡ None) × (p
 neither None p e = (refl, e)
 neither (Some x) p e = absurd cc
 
-or_false : (x y : Bool) → (x || y) ≡ false → (x ≡ false) × (y ≡ false)
+pub or_false : (x y : Bool) → (x || y) ≡ false → (x ≡ false) × (y ≡ false)
 or_false true y e = absurd (false≢true (sym e))
 or_false false y e = (refl, e)
 
-there : {A : Type 0} (o : Option A) → not (is_some o) ≡ false → (x : A) × (o ≡ Some x)
+pub there : {A : Type 0} (o : Option A) → not (is_some o) ≡ false → (x : A) × (o ≡ Some x)
 there None e = absurd (false≢true (sym e))
 there (Some x) e = (x, refl)
 
@@ -158,17 +158,17 @@ room_back b commands readings saves finds watches h =
     let parts = few_back (nat_lt MAX_COMMANDS commands) (nat_lt MAX_READINGS readings) (nat_lt MAX_SAVES saves) (nat_lt MAX_FINDS finds) (nat_lt MAX_WATCHERS watches) false h in
     (ltb-false _ _ parts.0, ltb-false _ _ parts.1)
 
-step_back : (b : Before) (c : Command) → is_plain c ≡ true → first_broken (command_tests b (command_value c)) ≡ None → IsPassed b c
-step_back b (command.Edit range text) built e =
-    let tests = tests_pass b (command_value (command.Edit range text)) e in
+step_back : (all : Bool) (b : Before) (c : Command) → is_plain c ≡ true → first_broken (command_tests all b (command_value c)) ≡ None → IsPassed b c
+step_back all b (command.Edit range text) built e =
+    let tests = tests_pass all b (command_value (command.Edit range text)) e in
     let room = room_back b (b.commands + 1) (b.reading + 0) (length (b.names ++ [])) (b.marks + 0) (b.watches + 0) tests.0 in
     record { readable = range_back range (or_false (not (is_some (range_of (range_value range)))) false tests.1).0; commands = room.0; readings = room.1 }
-step_back b (command.Text range limit) built e =
-    let tests = tests_pass b (command_value (command.Text range limit)) e in
+step_back all b (command.Text range limit) built e =
+    let tests = tests_pass all b (command_value (command.Text range limit)) e in
     let room = room_back b (b.commands + 1) (b.reading + 1) (length (b.names ++ [])) (b.marks + 0) (b.watches + 0) tests.0 in
     let parts = or_false (not (is_some (range_of (range_value range)))) (not (is_some (whole_of MAX_SHOWN (whole limit))) || false) tests.1 in
     record { readable = (range_back range parts.0, limit_back limit (or_false (not (is_some (whole_of MAX_SHOWN (whole limit)))) false parts.1).0); commands = room.0; readings = room.1 }
-step_back b c built e = absurd (false≢true built)
+step_back all b c built e = absurd (false≢true built)
 
 -- what the commands of a session that break no rule have
 record ArePassed (b : Before) (cs : List Command) : Type 0 where
@@ -176,37 +176,37 @@ record ArePassed (b : Before) (cs : List Command) : Type 0 where
   commands : b.commands + length cs ≤ MAX_COMMANDS
   readings : b.reading + count_by is_reading cs ≤ MAX_READINGS
 
-commands_back : (session n : ℕ) (b : Before) (cs : List Command) → list_all is_plain cs ≡ true → b.commands ≤ MAX_COMMANDS → b.reading ≤ MAX_READINGS
-    → place_in_session session n b (items_of (map command_value cs)) ≡ None → ArePassed b cs
-commands_back session n b [] built commands readings e = record { readable = tt; commands = omega arith; readings = let none : count_by is_reading [] ≡ 0 = refl in omega arith }
-commands_back session n b (c ∷ cs) built commands readings e =
+commands_back : (all : Bool) (session n : ℕ) (b : Before) (cs : List Command) → list_all is_plain cs ≡ true → b.commands ≤ MAX_COMMANDS → b.reading ≤ MAX_READINGS
+    → place_in_session all session n b (items_of (map command_value cs)) ≡ None → ArePassed b cs
+commands_back all session n b [] built commands readings e = record { readable = tt; commands = omega arith; readings = let none : count_by is_reading [] ≡ 0 = refl in omega arith }
+commands_back all session n b (c ∷ cs) built commands readings e =
     let parts = neither _ _ e in
-    let all = and_parts (is_plain c) (list_all is_plain cs) built in
-    let own = step_back b c all.0 (no_fault session n (command_tests b (command_value c)) parts.0) in
+    let built_all = and_parts (is_plain c) (list_all is_plain cs) built in
+    let own = step_back all b c built_all.0 (no_fault session n (command_tests all b (command_value c)) parts.0) in
     let after : (next b (command_value c)).reading ≡ b.reading + readings_of c = reading_after b c own.readable in
-    let rest = commands_back session (n + 1) (next b (command_value c)) cs all.1 own.commands (omega (arith, own.readings)) parts.1 in
+    let rest = commands_back all session (n + 1) (next b (command_value c)) cs built_all.1 own.commands (omega (arith, own.readings)) parts.1 in
     record { readable = (own.readable, rest.readable); commands = omega (arith, rest.commands); readings = omega (arith, rest.readings, counts_first c cs) }
 
 -- ---- the whole script
 
-parts_pass : (o : Opening) (sessions : List (List Command)) → is_some (opening_text o) ≡ true → length sessions ≡ 1 → AllByRecursion (AllByRecursion IsReadable) sessions
-    → (is_opening_within (opening_text o) && list_all is_bounded sessions) ≡ true → value_place (script_value (record { version = 1; opening = o; sessions = sessions })) ≡ None
-unfolding value_place
-parts_pass (opening.Text text) (cs ∷ []) built one h is =
+parts_pass : (all : Bool) (o : Opening) (sessions : List (List Command)) → is_some (opening_text o) ≡ true → length sessions ≡ 1 → AllByRecursion (AllByRecursion IsReadable) sessions
+    → (is_opening_within (opening_text o) && list_all is_bounded sessions) ≡ true → place_by all (script_value (record { version = 1; opening = o; sessions = sessions })) ≡ None
+unfolding place_by
+parts_pass all (opening.Text text) (cs ∷ []) built one h is =
     let parts = and_parts (nat_le (length (utf16_of text)) MAX_UNITS) (is_bounded cs && true) is in
     let bounded = and_parts (is_bounded cs) true parts.1 in
     let sizes = and_parts (nat_le (length cs) MAX_COMMANDS) (nat_le (count_by is_reading cs) MAX_READINGS) bounded.0 in
     let plain : IsPlain at_start = record { names = omega arith; finds = omega arith; watches = omega arith } in
     let commands : length cs ≤ MAX_COMMANDS = leb-true _ _ sizes.0 in
     let readings : count_by is_reading cs ≤ MAX_READINGS = leb-true _ _ sizes.1 in
-    rw (le-ltb MAX_UNITS _ (leb-true _ _ parts.0), commands_pass 1 1 at_start cs h.0 plain (omega arith) (omega arith)) refl
-parts_pass (opening.File name encoding) sessions built one h is = absurd (false≢true built)
-parts_pass o [] built one h is = absurd (omega arith)
-parts_pass o (cs ∷ ds ∷ rest) built one h is = absurd (omega arith)
+    rw (le-ltb MAX_UNITS _ (leb-true _ _ parts.0), commands_pass all 1 1 at_start cs h.0 plain (omega arith) (omega arith)) refl
+parts_pass all (opening.File name encoding) sessions built one h is = absurd (false≢true built)
+parts_pass all o [] built one h is = absurd (omega arith)
+parts_pass all o (cs ∷ ds ∷ rest) built one h is = absurd (omega arith)
 
 -- a script of what is built, within its limits, breaks no rule
-pub script_passes : (s : Script) → IsReadableScript s → is_within s ≡ true → value_place (script_value s) ≡ None
-script_passes s h is = rw h.version (parts_pass s.opening s.sessions h.opening h.one h.commands is)
+pub script_passes : (all : Bool) (s : Script) → IsReadableScript s → is_within s ≡ true → place_by all (script_value s) ≡ None
+script_passes all s h is = rw h.version (parts_pass all s.opening s.sessions h.opening h.one h.commands is)
 
 -- of the tests of a document, those of its shape and of what there is too much of
 first_and_second : (a b : Bool) (u v : ScriptRule) (ts : List (Bool × ScriptRule)) → first_broken ((a, u) ∷ (b, v) ∷ ts) ≡ None → (a ≡ false) × (b ≡ false)
@@ -214,9 +214,9 @@ first_and_second true b u v ts h = absurd cc
 first_and_second false true u v ts h = absurd cc
 first_and_second false false u v ts h = (refl, refl)
 
-document_pass : (d : Data) → fault_at 0 0 (document_tests d) ≡ None → (not (is_document d) ≡ false) × ((nat_lt MAX_SESSIONS (count_items (sessions_in d)) || nat_lt MAX_UNITS (length (opened_text d))) ≡ false)
-document_pass d h =
-    first_and_second (not (is_document d)) (nat_lt MAX_SESSIONS (count_items (sessions_in d)) || nat_lt MAX_UNITS (length (opened_text d))) BadShape TooMany (drop 2 (document_tests d)) (no_fault 0 0 (document_tests d) h)
+document_pass : (all : Bool) (d : Data) → fault_at 0 0 (document_tests all d) ≡ None → (is_misshapen_document all d ≡ false) × ((nat_lt MAX_SESSIONS (count_items (sessions_in d)) || nat_lt MAX_UNITS (length (opened_text d))) ≡ false)
+document_pass all d h =
+    first_and_second (is_misshapen_document all d) (nat_lt MAX_SESSIONS (count_items (sessions_in d)) || nat_lt MAX_UNITS (length (opened_text d))) BadShape TooMany (drop 2 (document_tests all d)) (no_fault 0 0 (document_tests all d) h)
 
 version_is_one : (d : Data) → is_document d ≡ true → is_version_one d ≡ true
 version_is_one d h =
@@ -228,32 +228,32 @@ version_is_one d h =
 abbrev made : ℕ → Opening → List (List Command) → Script
 made version o sessions = record { version = version; opening = o; sessions = sessions }
 
-parts_back : (n : ℕ) (o : Opening) (sessions : List (List Command)) → length sessions ≡ 1 → is_some (opening_text o) ≡ true → list_all (list_all is_plain) sessions ≡ true
-    → value_place (script_value (made n o sessions)) ≡ None → IsReadableScript (made n o sessions) × (is_within (made n o sessions) ≡ true)
-unfolding value_place
-parts_back n (opening.Text text) (cs ∷ []) one built commands h =
+parts_back : (all : Bool) (n : ℕ) (o : Opening) (sessions : List (List Command)) → length sessions ≡ 1 → is_some (opening_text o) ≡ true → list_all (list_all is_plain) sessions ≡ true
+    → place_by all (script_value (made n o sessions)) ≡ None → IsReadableScript (made n o sessions) × (is_within (made n o sessions) ≡ true)
+unfolding place_by
+parts_back all n (opening.Text text) (cs ∷ []) one built commands h =
     let d = script_value (made n (opening.Text text) (cs ∷ [])) in
-    let own = neither (fault_at 0 0 (document_tests d)) _ h in
-    let document = document_pass d own.0 in
-    let version : (n == 1) ≡ true = version_is_one d (not-false (is_document d) document.0) in
+    let own = neither (fault_at 0 0 (document_tests all d)) _ h in
+    let document = document_pass all d own.0 in
+    let version : (n == 1) ≡ true = version_is_one d (not-false (is_document d) (or_false (is_unbuilt_document d && not all) (not (is_document d)) document.0).1) in
     let units : length (utf16_of text) ≤ MAX_UNITS = ltb-false _ _ document.1 in
-    let session = neither (place_in_session 1 1 at_start (items_of (map command_value cs))) None own.1 in
-    let all = and_parts (list_all is_plain cs) true commands in
-    let passed = commands_back 1 1 at_start cs all.0 (omega arith) (omega arith) session.0 in
+    let session = neither (place_in_session all 1 1 at_start (items_of (map command_value cs))) None own.1 in
+    let built_all = and_parts (list_all is_plain cs) true commands in
+    let passed = commands_back all 1 1 at_start cs built_all.0 (omega arith) (omega arith) session.0 in
     let few : length cs ≤ MAX_COMMANDS = omega (arith, passed.commands) in
     let readings : count_by is_reading cs ≤ MAX_READINGS = omega (arith, passed.readings) in
     let bounded : is_bounded cs ≡ true = and_from _ _ (le-leb _ _ few) (le-leb _ _ readings) in
     (record { version = eqb-true n 1 version; one = refl; opening = refl; commands = (passed.readable, tt) }, and_from _ _ (le-leb _ _ units) (and_from _ _ bounded refl))
-parts_back n (opening.File name encoding) sessions one built commands h = absurd (false≢true built)
-parts_back n o [] one built commands h = absurd (omega arith)
-parts_back n o (cs ∷ ds ∷ rest) one built commands h = absurd (omega arith)
+parts_back all n (opening.File name encoding) sessions one built commands h = absurd (false≢true built)
+parts_back all n o [] one built commands h = absurd (omega arith)
+parts_back all n o (cs ∷ ds ∷ rest) one built commands h = absurd (omega arith)
 
 -- a script of what is built that breaks no rule is within the limits
-pub script_back : (s : Script) → is_built s ≡ true → BreaksNoRule s → IsReadableScript s × (is_within s ≡ true)
-script_back s built h =
+pub script_back : (all : Bool) (s : Script) → is_built s ≡ true → place_by all (script_value s) ≡ None → IsReadableScript s × (is_within s ≡ true)
+script_back all s built h =
     let parts = and_parts (length s.sessions == 1) (is_some (opening_text s.opening) && list_all (list_all is_plain) s.sessions) built in
     let more = and_parts (is_some (opening_text s.opening)) (list_all (list_all is_plain) s.sessions) parts.1 in
-    parts_back s.version s.opening s.sessions (eqb-true _ _ parts.0) more.0 more.1 h
+    parts_back all s.version s.opening s.sessions (eqb-true _ _ parts.0) more.0 more.1 h
 
 -- ---- reading where no place breaks a rule
 
@@ -261,55 +261,24 @@ cond_none : (o : Option Fault) (p : Option Script) (s : Script) → cond (is_som
 cond_none None p s e = (refl, e)
 cond_none (Some x) p s e = absurd (none-some s e)
 
-none_either_way : (o : Option Fault) (p : Option Script) → (o ≡ None → p ≡ None) → cond (is_some o) None p ≡ None
-none_either_way None p h = h refl
-none_either_way (Some x) p h = refl
-
 pub value_read : (s : Script) → is_built s ≡ true → BreaksNoRule s → script_of (script_value s) ≡ Some s
 unfolding script_of
-value_read s built h = rw h (reading_again s (script_back s built h).0)
+value_read s built h =
+    let within = script_back true s built h in
+    rw (script_passes false s within.0 within.1) (reading_again s within.0)
+
+-- what is read breaks no rule, and is within the limits
+pub read_within : (d : Data) (s : Script) → IsInKeyOrder d → script_of d ≡ Some s → IsReadableScript s × (is_within s ≡ true)
+unfolding script_of
+read_within d s sorted e =
+    let parts = cond_none (built_place d) (reading d) s e in
+    let exact = reading_exact d s sorted parts.1 in
+    script_back false s (readable_built s exact.1) (subst (λ v. place_by false v ≡ None) exact.0 parts.0)
 
 pub read_value : (d : Data) (s : Script) → IsInKeyOrder d → script_of d ≡ Some s → (d ≡ script_value s) × (is_built s ≡ true) × BreaksNoRule s
 unfolding script_of
 read_value d s sorted e =
-    let parts = cond_none (value_place d) (reading d) s e in
+    let parts = cond_none (built_place d) (reading d) s e in
     let exact = reading_exact d s sorted parts.1 in
-    (exact.0, readable_built s exact.1, subst (λ v. value_place v ≡ None) exact.0 parts.0)
-
--- what is read and within the limits is the script; what isn't within them is none, and nor is what isn't read
-script_within : (d : Data) (s : Script) → IsInKeyOrder d → reading d ≡ Some s → is_within s ≡ true → script_of d ≡ Some s
-unfolding script_of
-script_within d s sorted e within =
-    let exact = reading_exact d s sorted e in
-    let none : value_place d ≡ None = subst (λ v. value_place v ≡ None) (sym exact.0) (script_passes s exact.1 within) in
-    rw none e
-
-script_over : (d : Data) (s : Script) → IsInKeyOrder d → reading d ≡ Some s → is_within s ≡ false → script_of d ≡ None
-unfolding script_of
-script_over d s sorted e over =
-    let exact = reading_exact d s sorted e in
-    none_either_way (value_place d) (reading d) (λ none.
-    let back = script_back s (readable_built s exact.1) (subst (λ v. value_place v ≡ None) exact.0 none) in
-    absurd (false≢true (sym over ∙ back.1)))
-
-script_unread : (d : Data) → reading d ≡ None → script_of d ≡ None
-unfolding script_of
-script_unread d e = none_either_way (value_place d) (reading d) (λ none. e)
-
--- what is read within the limits is the script, and there is none else
-pub script_found : (d : Data) (s : Script) → IsInKeyOrder d → reading_within d ≡ Some s → script_of d ≡ Some s
-script_found d s sorted e =
-    option_and_then_some only_within (reading d) s e (λ t read ends.
-    let parts = cond_some (is_within t) t s ends in
-    subst (λ x. script_of d ≡ Some x) parts.1 (script_within d t sorted read parts.0))
-
-by_test : (d : Data) (s : Script) (b : Bool) → is_within s ≡ b → IsInKeyOrder d → reading d ≡ Some s → cond b (Some s) None ≡ None → script_of d ≡ None
-by_test d s true is sorted read e = absurd (none-some s (sym e))
-by_test d s false is sorted read e = script_over d s sorted read is
-
-by_reading : (d : Data) (o : Option Script) → reading d ≡ o → IsInKeyOrder d → option_and_then only_within o ≡ None → script_of d ≡ None
-by_reading d None is sorted e = script_unread d is
-by_reading d (Some s) is sorted e = by_test d s (is_within s) refl sorted is e
-
-pub script_not_found : (d : Data) → IsInKeyOrder d → reading_within d ≡ None → script_of d ≡ None
-script_not_found d sorted e = by_reading d (reading d) refl sorted e
+    let within = read_within d s sorted e in
+    (exact.0, readable_built s exact.1, script_passes true s within.0 within.1)

@@ -1,11 +1,11 @@
 -- The rules of a script on small values, worked out by computing.
-use Rattle.std.proofs.Common.{◌≡◌, ℕ, List, [], ◌∷◌, Option, Some, None, refl}
+use Rattle.std.proofs.Common.{◌≡◌, ℕ, List, [], ◌∷◌, true, Option, Some, None, refl}
 use Rattle.std.specs.Prelude.{codes}
 use Rattle.std.specs.Str.{chars}
 use Rattle.script.specs.declared.refusal.ScriptRule.{ScriptRule}
 use Rattle.script.specs.declared.refusal.ScriptRule.TheVariants.{BadShape, TooMany, UnknownSnapshot, SnapshotTaken, BadNumber, BadEncoding, EmptyNeedle, BadName}
 use Rattle.script.specs.Parts.{range_of}
-use Rattle.script.specs.Rules.{at_start, command_tests, first_broken, Fault, value_place}
+use Rattle.script.specs.Rules.{at_start, command_tests, first_broken, Fault, value_place, place_by}
 use Rattle.script.specs.TranscriptDocument.{whole}
 use Rattle.serde_json.specs.Data.{Data, null, string, array, object, Items, no_items, item, Members, no_members, member}
 
@@ -47,7 +47,7 @@ save name encoding = getting (codes "save") (with (codes "name") (string name) (
 -- The first rule that a command breaks where the snapshot 7 is live, `a` was saved, 4,096 readings were asked for and earlier sessions need
 -- 24 hands: with 7 live and one more, 26.
 broken : Data → Option ScriptRule
-broken d = first_broken (command_tests (record at_start { reading = 4095; live = 7 ∷ []; names = codes "a" ∷ []; peaks = 24 }) d)
+broken d = first_broken (command_tests true (record at_start { reading = 4095; live = 7 ∷ []; names = codes "a" ∷ []; peaks = 24 }) d)
 
 -- a number that isn't live comes before a limit out of its range and an empty needle; a read that is no object comes before all that
 unknown_before_number : broken (reading 8 (item (find [] 1001) no_items)) ≡ Some UnknownSnapshot
@@ -120,26 +120,26 @@ place opening sessions = value_place (object (with (codes "open") opening (with 
 
 -- a snapshot is live in its own session alone, and its number may be taken again once it was ended
 live_here : place opened (item (session (item (take 1) (item (send 1) (item (take 1) no_items)))) no_items) ≡ None
-unfolding place value_place range_of chars
+unfolding place place_by range_of chars
 live_here = refl
 
 live_there : place opened (item (session (item (take 1) no_items)) (item (session (item (look 0) (item (send 1) no_items))) no_items)) ≡ Some (2, 2, UnknownSnapshot)
-unfolding place value_place range_of chars
+unfolding place place_by range_of chars
 live_there = refl
 
 -- the document comes first, and then the first place, whatever the rules are
 document_first : place null (item (session (item (look 65537) no_items)) no_items) ≡ Some (0, 0, BadShape)
-unfolding place value_place range_of chars
+unfolding place place_by range_of chars
 document_first = refl
 
 first_place : place opened (item (session (item (look 65537) (item null no_items))) no_items) ≡ Some (1, 1, BadNumber)
-unfolding place value_place range_of chars
+unfolding place place_by range_of chars
 first_place = refl
 
 a_file : place (object (with (codes "file") (string (codes "a.txt")) (with (codes "encoding") (string (codes "latin1")) no_members))) (item (session no_items) no_items) ≡ None
-unfolding place value_place range_of chars
+unfolding place place_by range_of chars
 a_file = refl
 
 unknown_encoding : place (object (with (codes "file") (string (codes "a")) (with (codes "encoding") (string (codes "ascii")) no_members))) (item (session no_items) no_items) ≡ Some (0, 0, BadEncoding)
-unfolding place value_place range_of chars
+unfolding place place_by range_of chars
 unknown_encoding = refl

@@ -30,7 +30,7 @@ use Rattle.serde_json.specs.View.{items_of}
 use Rattle.serde_json.specs.Find.{get, at, as_str, as_array, as_number, as_u64}
 
 -- a test that passed, and what stands behind it
-test_some : {A : Type 0} (b : Bool) (o : Option A) (y : A) → cond b o None ≡ Some y → (b ≡ true) × (o ≡ Some y)
+pub test_some : {A : Type 0} (b : Bool) (o : Option A) (y : A) → cond b o None ≡ Some y → (b ≡ true) × (o ≡ Some y)
 test_some true o y e = (refl, e)
 test_some false o y e = absurd (none-some y e)
 
@@ -51,7 +51,7 @@ whole_exact limit n (string s) e = absurd (none-some n e)
 whole_exact limit n (array ds) e = absurd (none-some n e)
 whole_exact limit n (object ms) e = absurd (none-some n e)
 
-string_exact : (d : Data) (s : List ℕ) → as_str d ≡ Some s → d ≡ string s
+pub string_exact : (d : Data) (s : List ℕ) → as_str d ≡ Some s → d ≡ string s
 string_exact null s e = absurd (none-some s e)
 string_exact (boolean b) s e = absurd (none-some s e)
 string_exact (number n) s e = absurd (none-some s e)
@@ -74,7 +74,7 @@ four_items (array (item a (item b (item c no_items)))) n = absurd (omega arith)
 four_items (array (item a (item b (item c (item e no_items))))) n = (a, b, c, e, refl)
 four_items (array (item a (item b (item c (item e (item f ds)))))) n = absurd (omega arith)
 
-one_item : (d : Data) → item_count d ≡ 1 → (a : Data) × (d ≡ array (item a no_items))
+pub one_item : (d : Data) → item_count d ≡ 1 → (a : Data) × (d ≡ array (item a no_items))
 one_item null n = absurd (omega arith)
 one_item (boolean x) n = absurd (omega arith)
 one_item (number x) n = absurd (omega arith)
@@ -158,7 +158,7 @@ range_exact d r e =
 there : {A B : Type 0} (f : A → Option B) (o : Option A) (y : B) → option_and_then f o ≡ Some y → is_some o ≡ true
 there f o y e = option_and_then_some f o y e (λ x is rest. some_there o x is)
 
-word_exact : (o : Option (List ℕ)) (word : List ℕ) → is_word o word ≡ true → o ≡ Some word
+pub word_exact : (o : Option (List ℕ)) (word : List ℕ) → is_word o word ≡ true → o ≡ Some word
 word_exact None word e = absurd (true≢false (sym e))
 word_exact (Some s) word e = ap Some ((bytes_eq-Decides s word).0 e)
 
@@ -195,7 +195,7 @@ look_exact d c sorted n word e =
     subst (λ v. (d ≡ command_value v) × IsReadable v) is (look_parts d range limit parts word range_is limit_is)))
 
 -- one of two ways
-either_some : {A : Type 0} (b : Bool) (o p : Option A) (y : A) → cond b o p ≡ Some y → ((b ≡ true) × (o ≡ Some y)) ⊎ (p ≡ Some y)
+pub either_some : {A : Type 0} (b : Bool) (o p : Option A) (y : A) → cond b o p ≡ Some y → ((b ≡ true) × (o ≡ Some y)) ⊎ (p ≡ Some y)
 either_some true o p y e = inl (refl, e)
 either_some false o p y e = inr e
 
@@ -220,7 +220,7 @@ commands_exact (item d ds) cs sorted e =
 
 -- ---- sessions, the opening and the whole
 
-array_exact : (d : Data) (ds : Items) → as_array d ≡ Some ds → d ≡ array ds
+pub array_exact : (d : Data) (ds : Items) → as_array d ≡ Some ds → d ≡ array ds
 array_exact null ds e = absurd (none-some ds e)
 array_exact (boolean b) ds e = absurd (none-some ds e)
 array_exact (number n) ds e = absurd (none-some ds e)
@@ -276,7 +276,7 @@ number_exact (string s) n e = absurd (none-some n e)
 number_exact (array ds) n e = absurd (none-some n e)
 number_exact (object ms) n e = absurd (none-some n e)
 
-version_exact : (o : Option Data) → is_one (option_and_then as_u64 (option_and_then as_number o)) ≡ true → o ≡ Some (whole 1)
+pub version_exact : (o : Option Data) → is_one (option_and_then as_u64 (option_and_then as_number o)) ≡ true → o ≡ Some (whole 1)
 version_exact None e = absurd (true≢false (sym e))
 version_exact (Some d) e = ap Some (number_exact d 1 (one_exact _ e))
 

@@ -30,11 +30,18 @@ how_words = codes "intersecting" ∷ codes "containing" ∷ codes "contained_in"
 abbrev pub encoding_words : List (List ℕ)
 encoding_words = codes "utf8" ∷ codes "utf16le" ∷ codes "utf16be" ∷ codes "latin1" ∷ []
 
+-- the members of an edit, and of a look at the text
+abbrev pub edit_fields : List Field
+edit_fields = (codes "range", range) ∷ (codes "text", text) ∷ []
+
+abbrev pub look_fields : List Field
+look_fields = (codes "range", range) ∷ (codes "limit", whole MAX_SHOWN) ∷ []
+
 -- the commands, by the word of `do`
 abbrev pub command_rows : List Row
 command_rows =
-    (codes "edit", (codes "range", range) ∷ (codes "text", text) ∷ [])
-    ∷ (codes "text", (codes "range", range) ∷ (codes "limit", whole MAX_SHOWN) ∷ [])
+    (codes "edit", edit_fields)
+    ∷ (codes "text", look_fields)
     ∷ (codes "undo", [])
     ∷ (codes "redo", [])
     ∷ (codes "mark", (codes "id", whole MAX_ID) ∷ (codes "range", range) ∷ (codes "exclusive", flag) ∷ [])
@@ -56,7 +63,7 @@ command_rows =
 abbrev pub read_rows : List Row
 read_rows =
     (codes "size", [])
-    ∷ (codes "text", (codes "range", range) ∷ (codes "limit", whole MAX_SHOWN) ∷ [])
+    ∷ (codes "text", look_fields)
     ∷ (codes "find", (codes "needle", needle) ∷ (codes "limit", whole MAX_HITS) ∷ [])
     ∷ (codes "pattern", (codes "pattern", text) ∷ (codes "limit", whole MAX_HITS) ∷ [])
     ∷ (codes "save", (codes "name", name) ∷ (codes "encoding", encoding) ∷ [])

@@ -25,8 +25,11 @@ abbrev pub is_one_of : List (List ℕ) → Option (List ℕ) → Bool
 is_one_of words s = list_any (is_word s) words
 
 -- four numbers
+abbrev pub is_number : Data → Bool
+is_number d = is_some (as_number d)
+
 abbrev pub is_quadruple : Data → Bool
-is_quadruple d = (count_items (items_in d) == 4) && not (any_item (λ n. not (is_some (as_number n))) (items_in d))
+is_quadruple d = (count_items (items_in d) == 4) && not (any_item (λ n. not (is_number n)) (items_in d))
 
 -- the value has the JSON kind that is asked for
 abbrev pub has_kind : Kind → Data → Bool
@@ -191,10 +194,22 @@ is_again there (s ∷ more) = list_any (bytes_eq s) there || is_again (s ∷ the
 abbrev pub needs_live : Data → Bool
 needs_live d = is_do (codes "read") d || is_do (codes "send") d || is_do (codes "release") d
 
+-- the words of the commands that are built
+abbrev pub built_words : List (List ℕ)
+built_words = codes "edit" ∷ codes "text" ∷ []
+
+-- a command that isn't built
+abbrev pub is_unbuilt : Data → Bool
+is_unbuilt d = not (is_one_of built_words (string_in (codes "do") d))
+
+-- The shape of a command is broken; unless `all` words are looked at, also where its word isn't built.
+abbrev pub is_misshapen : Bool → Data → Bool
+is_misshapen all d = (is_unbuilt d && not all) || command_breaks wrong_kind true d
+
 -- what a command breaks, in the order of the rules
-abbrev pub command_tests : Before → Data → List (Bool × ScriptRule)
-command_tests b d =
-    (command_breaks wrong_kind true d, BadShape)
+abbrev pub command_tests : Bool → Before → Data → List (Bool × ScriptRule)
+command_tests all b d =
+    (is_misshapen all d, BadShape)
     ∷ (is_too_many b d, TooMany)
     ∷ (needs_live d && not (is_live b d), UnknownSnapshot)
     ∷ (is_do (codes "take") d && is_live b d, SnapshotTaken)
@@ -231,14 +246,21 @@ are_sessions (item d ds) = not (any_item (λ session. not (is_some (as_array ses
 abbrev pub is_document : Data → Bool
 is_document d = (member_count d == 3) && (is_version_one d && (not (opening_breaks wrong_kind true (get (codes "open") d)) && are_sessions (sessions_in d)))
 
+-- a document that isn't built: of other than one session, or with an opening that is no text
+abbrev pub is_unbuilt_document : Data → Bool
+is_unbuilt_document d = not (count_items (sessions_in d) == 1) || not (is_some (option_and_then (get (codes "text")) (get (codes "open") d)))
+
+abbrev pub is_misshapen_document : Bool → Data → Bool
+is_misshapen_document all d = (is_unbuilt_document d && not all) || not (is_document d)
+
 -- the units of the opening text, where it is one
 abbrev pub opened_text : Data → List ℕ
 opened_text d = unwrap_or (option_map utf16_of (option_and_then (string_in (codes "text")) (get (codes "open") d))) []
 
 -- what the document itself breaks, in the order of the rules
-abbrev pub document_tests : Data → List (Bool × ScriptRule)
-document_tests d =
-    (not (is_document d), BadShape)
+abbrev pub document_tests : Bool → Data → List (Bool × ScriptRule)
+document_tests all d =
+    (is_misshapen_document all d, BadShape)
     ∷ (nat_lt MAX_SESSIONS (count_items (sessions_in d)) || nat_lt MAX_UNITS (length (opened_text d)), TooMany)
     ∷ (opening_breaks wrong_encoding false (get (codes "open") d), BadEncoding)
     ∷ (opening_breaks wrong_name false (get (codes "open") d), BadName)
@@ -258,19 +280,27 @@ abbrev pub fault_at : ℕ → ℕ → List (Bool × ScriptRule) → Option Fault
 fault_at session command ts = option_map (λ why. (session, command, why)) (first_broken ts)
 
 -- the first command that breaks a rule, from the one with this number on
-abbrev pub place_in_session : ℕ → ℕ → Before → Items → Option Fault
-place_in_session session command b no_items = None
-place_in_session session command b (item d ds) = option_or (fault_at session command (command_tests b d)) (place_in_session session (command + 1) (next b d) ds)
+abbrev pub place_in_session : Bool → ℕ → ℕ → Before → Items → Option Fault
+place_in_session all session command b no_items = None
+place_in_session all session command b (item d ds) = option_or (fault_at session command (command_tests all b d)) (place_in_session all session (command + 1) (next b d) ds)
 
 -- what stands before the next session
 abbrev pub after_commands : Before → Items → Before
 after_commands b no_items = next_session b
 after_commands b (item d ds) = after_commands (next b d) ds
 
-abbrev pub place_in_sessions : ℕ → Before → Items → Option Fault
-place_in_sessions session b no_items = None
-place_in_sessions session b (item d ds) = option_or (place_in_session session 1 b (items_in d)) (place_in_sessions (session + 1) (after_commands b (items_in d)) ds)
+abbrev pub place_in_sessions : Bool → ℕ → Before → Items → Option Fault
+place_in_sessions all session b no_items = None
+place_in_sessions all session b (item d ds) = option_or (place_in_session all session 1 b (items_in d)) (place_in_sessions all (session + 1) (after_commands b (items_in d)) ds)
 
--- the first place of the value of a document that breaks a rule, with the lowest rule that it breaks there: the document itself is 0 0
-unfoldable pub value_place : Data → Option Fault
-value_place d = option_or (fault_at 0 0 (document_tests d)) (place_in_sessions 1 at_start (sessions_in d))
+-- The first place of the value of a document that breaks a rule, with the lowest rule that it breaks there: the document itself is 0 0.
+-- `all` looks at the rules alone; without it what isn't built breaks the rule of shape at its place.
+unfoldable pub place_by : Bool → Data → Option Fault
+place_by all d = option_or (fault_at 0 0 (document_tests all d)) (place_in_sessions all 1 at_start (sessions_in d))
+
+-- by the rules alone, and with what isn't built
+abbrev pub value_place : Data → Option Fault
+value_place = place_by true
+
+abbrev pub built_place : Data → Option Fault
+built_place = place_by false

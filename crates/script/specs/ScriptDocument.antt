@@ -8,11 +8,10 @@ use Rattle.machine.specs.declared.command.Opening.TheVariants as opening
 use Rattle.machine.specs.declared.command.Script.{Script}
 use Rattle.script.specs.declared.refusal.ScriptRefusal.{ScriptRefusal}
 use Rattle.script.specs.declared.refusal.ScriptRefusal.TheVariants.{Refused, NoMemory}
-use Rattle.script.specs.declared.refusal.ScriptRule.TheVariants.{NotJson, BadShape}
-use Rattle.script.specs.Limits.{is_within}
+use Rattle.script.specs.declared.refusal.ScriptRule.TheVariants.{NotJson}
 use Rattle.script.specs.Parts.{member_count, item_count, string_in, whole_in, is_word, range_in}
 use Rattle.script.specs.declared.limits.TheConstants.{MAX_SHOWN}
-use Rattle.script.specs.Rules.{Fault, is_version_one, value_place}
+use Rattle.script.specs.Rules.{Fault, is_version_one, built_place}
 use Rattle.serde_json.specs.Data.{Data, Items, no_items, item}
 use Rattle.serde_json.specs.Find.{get, at, as_array}
 use Rattle.serde_json.specs.Read.{read}
@@ -50,16 +49,19 @@ opening_of d = if member_count d == 1 then option_map opening.Text (string_in (c
 unfoldable pub reading : Data → Option Script
 reading d = if (member_count d == 3) && is_version_one d then option_and_then (λ o. option_map (λ sessions. record { version = 1; opening = o; sessions = sessions }) (option_and_then sessions_of (get (codes "sessions") d))) (option_and_then opening_of (get (codes "open") d)) else None
 
--- the same within the limits of a script of what is built
-abbrev pub only_within : Script → Option Script
-only_within s = if is_within s then Some s else None
-
-abbrev pub reading_within : Data → Option Script
-reading_within d = option_and_then only_within (reading d)
-
 -- the script that a JSON value is: the one that it reads as, where no place breaks a rule
 unfoldable pub script_of : Data → Option Script
-script_of d = if is_some (value_place d) then None else reading d
+script_of d = if is_some (built_place d) then None else reading d
+
+-- the text that a script opens, and the commands of its session, where the document has the shape of what is built
+abbrev pub opened_in : Data → Option (List ℕ)
+opened_in d = if member_count d == 1 then string_in (codes "text") d else None
+
+abbrev pub session_in : Data → Option Items
+session_in d = if item_count d == 1 then option_and_then as_array (at 0 d) else None
+
+unfoldable pub head_of : Data → Option (List ℕ × Items)
+head_of d = if (member_count d == 3) && is_version_one d then option_and_then (λ text. option_map (λ ds. (text, ds)) (option_and_then session_in (get (codes "sessions") d))) (option_and_then opened_in (get (codes "open") d)) else None
 
 -- ---- from bytes to a script
 
@@ -71,11 +73,10 @@ document bytes = if is_utf8 bytes then read bytes else None
 abbrev pub script_in : List ℕ → Option Script
 script_in bytes = option_and_then script_of (document bytes)
 
--- The fault that is told: NotJson where the bytes hold no value, and BadShape where the value is no script. Both are told of the document
--- itself, session 0 command 0, until the other rules and places are.
+-- The fault that is told: NotJson where the bytes hold no value, and else the first place that breaks a rule, what isn't built with them.
 abbrev pub place_in : Option Data → Option Fault
 place_in None = Some (0, 0, NotJson)
-place_in (Some d) = if is_some (script_of d) then None else Some (0, 0, BadShape)
+place_in (Some d) = built_place d
 
 abbrev pub script_place : List ℕ → Option Fault
 script_place bytes = place_in (document bytes)

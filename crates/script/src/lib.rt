@@ -6,6 +6,7 @@
 //! `TranscriptDocument`).
 #![tactic(auto)]
 
+mod before;
 mod count;
 pub mod document_laws;
 mod limits;

@@ -1,16 +1,18 @@
 //! From bytes to a script.
-ghost use Rattle.std.specs.Prelude.{◌≡◌, Some, IfOk, IfErr};
+ghost use Rattle.std.specs.Prelude.{◌≡◌, false, Some, None, IfOk, IfErr};
 ghost use Rattle.serde_json.specs.View.{view, items_view};
-ghost use Rattle.script.specs.ScriptDocument.{edit_of, look_of, command_of, commands_of, session_of, sessions_of, opening_of, reading, reading_within, document, script_in, script_place, IsRefusalAt};
-ghost use Rattle.script.specs.Rules.{is_version_one};
-ghost use Rattle.script.specs.Reading.{Gives};
-ghost use Rattle.script.specs.Limits.{is_within, IsWithinLimits};
+ghost use Rattle.script.specs.ScriptDocument.{edit_of, look_of, command_of, commands_of, opened_in, session_in, head_of, script_of, document, script_in, script_place, IsRefusalAt};
+ghost use Rattle.script.specs.Rules.{at_start, command_tests, first_broken, is_version_one, place_in_session, built_place};
+ghost use Rattle.script.specs.Reading.{Gives, IsFew, IsRead, FaultIs, counted, one_session};
+ghost use Rattle.script.specs.Limits.{IsWithinLimits};
 
-use crate::count::is_within;
+use crate::before::{Before, CommandFault, broken_rule, shows_text};
+use crate::count::units_of;
 use crate::limits::MAX_SHOWN;
 use crate::parts::{Misfit, item_count, member, member_count, range_in, string_in, whole_in};
 use crate::refusal::{ScriptRefusal, ScriptRule};
 use machine::{Command, Opening, Script, Sequence, Text};
+use points::MAX_UNITS;
 use serde_json::Value;
 use std::alloc::Global;
 
@@ -53,53 +55,72 @@ fn command_of(alloc: Global, value: &Value) -> Result<Command, Misfit>
     Err(Misfit::Shape)
 }
 
-// The commands of a session, one after another.
-fn commands_of(alloc: Global, items: &[Value]) -> Result<Vec<Command>, Misfit>
-    ensures { Gives (λ cs. cs.items) result (commands_of (items_view items.now)) }
+// A command that is read and counted, or the rule that it breaks.
+fn read_command(alloc: Global, before: &mut Before, value: &Value) -> Result<Command, CommandFault>
+    requires few { IsFew before.now }
+    ensures read { IfOk result (λ c. IsRead before.old before.new (view value.now) c) }
+    ensures few { IfOk result (λ c. IsFew before.new) }
+    ensures broken { IfErr result (FaultIs (first_broken (command_tests false (counted before.old) (view value.now)))) }
 {
+    match command_of(alloc, value) {
+        Ok(command) => if before.add(shows_text(&command)) {
+            Ok(command)
+        } else {
+            Err(CommandFault::Breaks {
+                why: ScriptRule::TooMany,
+            })
+        },
+        Err(Misfit::Shape) => Err(CommandFault::Breaks {
+            why: broken_rule(before, value),
+        }),
+        Err(Misfit::NoMemory) => Err(CommandFault::NoMemory),
+    }
+}
+
+// The commands of the first session, one after another. So a command's number is one more than how many were
+// counted before it.
+fn commands_of(alloc: Global, items: &[Value]) -> Result<Vec<Command>, ScriptRefusal>
+    ensures read { IfOk result (λ cs. commands_of (items_view items.now) ≡ Some cs.items) }
+    ensures kept { IfOk result (λ cs. place_in_session false 1 1 at_start (items_view items.now) ≡ None) }
+    ensures refused { IfErr result (IsRefusalAt (place_in_session false 1 1 at_start (items_view items.now))) }
+{
+    let mut before = Before::at_start();
     let mut commands = Vec::new(alloc);
     for item in items {
-        let command = command_of(alloc, item)?;
-        commands.push(command)?;
+        let number = before.commands + 1;
+        match read_command(alloc, &mut before, item) {
+            Ok(command) => commands.push(command)?,
+            Err(CommandFault::Breaks { why }) => return Err(ScriptRefusal::Refused {
+                session: 1,
+                command: number,
+                why,
+            }),
+            Err(CommandFault::NoMemory) => return Err(ScriptRefusal::NoMemory),
+        }
     }
     Ok(commands)
 }
 
-// A session: a list of commands.
-#[tactic(auto, unfolding(crate::specs::ScriptDocument::session_of))]
-fn session_of(alloc: Global, value: &Value) -> Result<Sequence<Command>, Misfit>
-    ensures { Gives (λ s. s) result (session_of (view value.now)) }
-{
-    let items = value.as_array().ok_or(Misfit::Shape)?;
-    let commands = commands_of(alloc, items.as_slice())?;
-    Ok(Sequence::new(commands))
-}
-
-// The sessions: one, by now.
-#[tactic(auto, unfolding(crate::specs::ScriptDocument::sessions_of))]
-fn sessions_of(alloc: Global, value: &Value) -> Result<Sequence<Sequence<Command>>, Misfit>
-    ensures { Gives (λ s. s) result (sessions_of (view value.now)) }
+// The commands of the one session.
+fn session_in<'v>(value: &'v Value) -> Result<&'v [Value], Misfit>
+    ensures { Gives (λ items. items_view items.now) result (session_in (view value.now)) }
 {
     if item_count(value) != 1 {
         return Err(Misfit::Shape);
     }
-    let session = session_of(alloc, value.get(0usize).ok_or(Misfit::Shape)?)?;
-    let mut sessions = Vec::new(alloc);
-    sessions.push(session)?;
-    Ok(Sequence::new(sessions))
+    let session = value.get(0usize).ok_or(Misfit::Shape)?;
+    let items = session.as_array().ok_or(Misfit::Shape)?;
+    Ok(items.as_slice())
 }
 
-// What a script opens: a text, by now.
-#[tactic(auto, unfolding(crate::specs::ScriptDocument::opening_of))]
-fn opening_of(alloc: Global, value: &Value) -> Result<Opening, Misfit>
-    ensures { Gives (λ o. o) result (opening_of (view value.now)) }
+// The text that a script opens.
+fn opened_in<'v>(value: &'v Value) -> Result<&'v str, Misfit>
+    ensures { Gives (λ text. text.now) result (opened_in (view value.now)) }
 {
     if member_count(value) != 1 {
         return Err(Misfit::Shape);
     }
-    let text = string_in(value, "text")?;
-    let text = Text::from_str(alloc, text)?;
-    Ok(Opening::Text { text })
+    string_in(value, "text")
 }
 
 // The version is the number 1.
@@ -112,33 +133,38 @@ fn is_version_one(value: &Value) -> bool
     }
 }
 
-// A script, whatever it has too much of.
-#[tactic(auto, unfolding(crate::specs::ScriptDocument::reading))]
-fn reading(alloc: Global, value: &Value) -> Result<Script, Misfit>
-    ensures { Gives (λ s. s) result (reading (view value.now)) }
+// What a document has beside its version: the text that it opens, and the commands of its session.
+#[derive(Drop)]
+struct Head<'v> {
+    text: &'v str,
+    commands: &'v [Value],
+}
+
+#[tactic(auto, unfolding(crate::specs::ScriptDocument::head_of))]
+fn head_of<'v>(value: &'v Value) -> Result<Head<'v>, Misfit>
+    ensures { Gives (λ h. (h.text.now, items_view h.commands.now)) result (head_of (view value.now)) }
 {
     if member_count(value) != 3 || !is_version_one(value) {
         return Err(Misfit::Shape);
     }
-    let opening = opening_of(alloc, member(value, "open")?)?;
-    let sessions = sessions_of(alloc, member(value, "sessions")?)?;
-    Ok(Script {
-        version: 1,
-        opening,
-        sessions,
-    })
+    let text = opened_in(member(value, "open")?)?;
+    let commands = session_in(member(value, "sessions")?)?;
+    Ok(Head { text, commands })
 }
 
-// A script within its limits.
-fn reading_within(alloc: Global, value: &Value) -> Result<Script, Misfit>
-    ensures { Gives (λ s. s) result (reading_within (view value.now)) }
+// The script of these parts.
+fn script_from(alloc: Global, text: &str, commands: Vec<Command>) -> Result<Script, ScriptRefusal>
+    ensures made { IfOk result (λ s. s ≡ one_session text.now commands.items) }
+    ensures fails { IfErr result (λ r. r ≡ ScriptRefusal.NoMemory) }
 {
-    let script = reading(alloc, value)?;
-    if is_within(&script) {
-        Ok(script)
-    } else {
-        Err(Misfit::Shape)
-    }
+    let text = Text::from_str(alloc, text)?;
+    let mut sessions = Vec::new(alloc);
+    sessions.push(Sequence::new(commands))?;
+    Ok(Script {
+        version: 1,
+        opening: Opening::Text { text },
+        sessions: Sequence::new(sessions),
+    })
 }
 
 // A refusal at the document itself.
@@ -152,11 +178,31 @@ fn refused(why: ScriptRule) -> ScriptRefusal
     }
 }
 
+// The script of a value: the document itself is looked at first, and then its commands.
+fn read_value(alloc: Global, value: &Value) -> Result<Script, ScriptRefusal>
+    ensures read { IfOk result (λ s. script_of (view value.now) ≡ Some s) }
+    ensures refused { IfErr result (IsRefusalAt (built_place (view value.now))) }
+{
+    let head = match head_of(value) {
+        Ok(head) => head,
+        Err(Misfit::Shape) => return Err(refused(ScriptRule::BadShape)),
+        Err(Misfit::NoMemory) => return Err(ScriptRefusal::NoMemory),
+    };
+    if units_of(head.text) > MAX_UNITS {
+        return Err(refused(ScriptRule::TooMany));
+    }
+    match commands_of(alloc, head.commands) {
+        Ok(commands) => script_from(alloc, head.text, commands),
+        Err(refusal) => Err(refusal),
+    }
+}
+
 /// Reads a script: one JSON value in UTF-8. Sessions and commands are counted from 1; the place of the
 /// document itself is session 0, command 0.
 pub fn read_script(alloc: Global, bytes: &[u8]) -> Result<Script, ScriptRefusal>
     ensures read { IfOk result (λ s. script_in bytes.now ≡ Some s) }
     ensures limits { IfOk result (λ s. IsWithinLimits s) }
+    ensures kept { IfOk result (λ s. script_place bytes.now ≡ None) }
     ensures refused { IfErr result (IsRefusalAt (script_place bytes.now)) }
 {
     let value = match Value::from_slice(alloc, bytes) {
@@ -164,9 +210,5 @@ pub fn read_script(alloc: Global, bytes: &[u8]) -> Result<Script, ScriptRefusal>
         Err(error) if error.is_memory() => return Err(ScriptRefusal::NoMemory),
         Err(_) => return Err(refused(ScriptRule::NotJson)),
     };
-    match reading_within(alloc, &value) {
-        Ok(script) => Ok(script),
-        Err(Misfit::Shape) => Err(refused(ScriptRule::BadShape)),
-        Err(Misfit::NoMemory) => Err(ScriptRefusal::NoMemory),
-    }
+    read_value(alloc, &value)
 }

@@ -1,0 +1,292 @@
+-- The rule that a command of what is built breaks, if any.
+use Rattle.std.proofs.Common.{◌≡◌, ◌+◌, ◌≤◌, ◌&&◌, ◌||◌, not, ℕ, List, [], ◌∷◌, Bool, true, false, cond, Option, Some, None, option_map, option_and_then, refl, sym, ap, subst, ◌∙◌, ◌⊎◌, inl, inr, arith}
+use Rattle.std.specs.Prelude.{nat_lt, nat_le, ◌==◌, codes}
+use Rattle.std.proofs.lemmas.Bool.{leb-true, le-leb, and_parts, not-false, false≢true}
+use Rattle.std.proofs.lemmas.Bool.Decides.{nat_tests}
+use Rattle.std.proofs.lemmas.Option.{none-some, option_and_then_some}
+use Rattle.points.specs.declared.range.Range.{Range}
+use Rattle.machine.specs.declared.command.Command.{Command}
+use Rattle.machine.specs.declared.command.Command.TheVariants as command
+use Rattle.script.specs.declared.before.Before.{Before}
+use Rattle.script.specs.declared.limits.TheConstants.{MAX_COMMANDS, MAX_READINGS, MAX_SHOWN}
+use Rattle.script.specs.declared.refusal.ScriptRule.TheVariants.{BadShape, TooMany, UnknownSnapshot, SnapshotTaken, BadNumber, BadEncoding, EmptyNeedle, BadName}
+use Rattle.script.specs.Limits.{is_reading}
+use Rattle.script.specs.Parts.{member_count, string_in, whole_of, whole_in, range_of, range_in, is_word}
+use Rattle.script.specs.Reading.{counted, has_room, IsRead}
+use Rattle.script.specs.Rows as kind
+use Rattle.script.specs.Rows.{Kind}
+use Rattle.script.specs.Rules as rules
+use Rattle.script.specs.Rules.{next, command_tests, command_breaks, wrong_kind, wrong_number, wrong_encoding, empty_needle, wrong_name, field_breaks, is_too_many, needs_live, is_live, is_do, is_again, names_in, reads_in, is_unbuilt, is_misshapen, built_words, is_one_of, first_broken}
+use Rattle.script.specs.ScriptDocument.{edit_of, look_of, command_of}
+use Rattle.script.specs.ScriptValue.{range_value}
+use Rattle.script.specs.TranscriptDocument.{whole}
+use Rattle.script.proofs.LimitLemmas.{behind_map}
+use Rattle.script.proofs.RuleLemmas.{few, or_false, there}
+use Rattle.script.proofs.ScriptExact.{test_some, either_some, word_exact, string_exact, range_exact, whole_exact}
+use Rattle.serde_json.specs.Data.{Data, string}
+use Rattle.serde_json.specs.Find.{get, as_str}
+
+-- ---- the tests that matter
+
+-- of the tests of a command, those of its shape, of what there is too much of, and of its numbers
+three_tests : (a b c d e f g h : Bool) → c ≡ false → d ≡ false → f ≡ false → g ≡ false → h ≡ false
+    → first_broken ((a, BadShape) ∷ (b, TooMany) ∷ (c, UnknownSnapshot) ∷ (d, SnapshotTaken) ∷ (e, BadNumber) ∷ (f, BadEncoding) ∷ (g, EmptyNeedle) ∷ (h, BadName) ∷ [])
+    ≡ first_broken ((a, BadShape) ∷ (b, TooMany) ∷ (e, BadNumber) ∷ [])
+three_tests a b c d e f g h not_c not_d not_f not_g not_h = rw (not_c, not_d, not_f, not_g, not_h) refl
+
+-- a command whose word this is has these two members
+record HasMembers (word key other : List ℕ) (d r v : Data) : Type 0 where
+  word_is : string_in (codes "do") d ≡ Some word
+  first : get key d ≡ Some r
+  second : get other d ≡ Some v
+
+edit_tests : (b : rules.Before) (d r v : Data) → HasMembers (codes "edit") (codes "range") (codes "text") d r v
+    → first_broken (command_tests false b d) ≡ first_broken ((is_misshapen false d, BadShape) ∷ (is_too_many b d, TooMany) ∷ (command_breaks wrong_number false d, BadNumber) ∷ [])
+edit_tests b d r v h =
+    three_tests (is_misshapen false d) (is_too_many b d) (needs_live d && not (is_live b d)) (is_do (codes "take") d && is_live b d) (command_breaks wrong_number false d)
+    (command_breaks wrong_encoding false d) (command_breaks empty_needle false d) (command_breaks wrong_name false d || is_again b.names (names_in (reads_in d)))
+    (rw h.word_is refl) (rw h.word_is refl) (rw (h.word_is, h.first, h.second) refl) (rw (h.word_is, h.first, h.second) refl) (rw (h.word_is, h.first, h.second) refl)
+
+look_tests : (b : rules.Before) (d r v : Data) → HasMembers (codes "text") (codes "range") (codes "limit") d r v
+    → first_broken (command_tests false b d) ≡ first_broken ((is_misshapen false d, BadShape) ∷ (is_too_many b d, TooMany) ∷ (command_breaks wrong_number false d, BadNumber) ∷ [])
+look_tests b d r v h =
+    three_tests (is_misshapen false d) (is_too_many b d) (needs_live d && not (is_live b d)) (is_do (codes "take") d && is_live b d) (command_breaks wrong_number false d)
+    (command_breaks wrong_encoding false d) (command_breaks empty_needle false d) (command_breaks wrong_name false d || is_again b.names (names_in (reads_in d)))
+    (rw h.word_is refl) (rw h.word_is refl) (rw (h.word_is, h.first, h.second) refl) (rw (h.word_is, h.first, h.second) refl) (rw (h.word_is, h.first, h.second) refl)
+
+-- ---- room for one more
+
+one_over : (commands readings : ℕ) → (nat_lt commands MAX_COMMANDS && nat_le readings MAX_READINGS) ≡ false → (nat_lt MAX_COMMANDS (commands + 1) || nat_lt MAX_READINGS readings) ≡ true
+one_over commands readings h = grind (arith, nat_tests)
+
+first_two : (a b c d e f : Bool) → (a || b) ≡ true → (a || b || c || d || e || f) ≡ true
+first_two true b c d e f h = refl
+first_two false true c d e f h = refl
+first_two false false c d e f h = absurd (false≢true h)
+
+over : (commands readings : ℕ) → (nat_lt commands MAX_COMMANDS && nat_le readings MAX_READINGS) ≡ false
+    → (nat_lt MAX_COMMANDS (commands + 1) || nat_lt MAX_READINGS readings || false || false || false || false) ≡ true
+over commands readings h = first_two (nat_lt MAX_COMMANDS (commands + 1)) (nat_lt MAX_READINGS readings) false false false false (one_over commands readings h)
+
+room_commands : (b : Before) → nat_lt b.commands MAX_COMMANDS ≡ true → b.commands + 1 ≤ MAX_COMMANDS
+room_commands b h = grind (arith, nat_tests)
+
+edit_room : (b : Before) (d : Data) → string_in (codes "do") d ≡ Some (codes "edit") → has_room b false ≡ true → is_too_many (counted b) d ≡ false
+edit_room b d word room =
+    let parts = and_parts (nat_lt b.commands MAX_COMMANDS) (nat_le (b.readings + 0) MAX_READINGS) room in
+    rw word (few (b.commands + 1) (b.readings + 0) 0 0 0 (room_commands b parts.0) (leb-true _ _ parts.1) (omega arith) (omega arith) (omega arith))
+
+look_room : (b : Before) (d : Data) → string_in (codes "do") d ≡ Some (codes "text") → has_room b true ≡ true → is_too_many (counted b) d ≡ false
+look_room b d word room =
+    let parts = and_parts (nat_lt b.commands MAX_COMMANDS) (nat_le (b.readings + 1) MAX_READINGS) room in
+    rw word (few (b.commands + 1) (b.readings + 1) 0 0 0 (room_commands b parts.0) (leb-true _ _ parts.1) (omega arith) (omega arith) (omega arith))
+
+edit_full : (b : Before) (d : Data) → string_in (codes "do") d ≡ Some (codes "edit") → has_room b false ≡ false → is_too_many (counted b) d ≡ true
+edit_full b d word full = rw word (over b.commands (b.readings + 0) full)
+
+look_full : (b : Before) (d : Data) → string_in (codes "do") d ≡ Some (codes "text") → has_room b true ≡ false → is_too_many (counted b) d ≡ true
+look_full b d word full = rw word (over b.commands (b.readings + 1) full)
+
+-- ---- commands that are read
+
+record IsEditOf (d : Data) (x : Range) (s : List ℕ) : Type 0 where
+  members : (member_count d == 3) ≡ true
+  word : string_in (codes "do") d ≡ Some (codes "edit")
+  range : get (codes "range") d ≡ Some (range_value x)
+  found : range_of (range_value x) ≡ Some x
+  text : get (codes "text") d ≡ Some (string s)
+
+record IsLookOf (d : Data) (x : Range) (n : ℕ) : Type 0 where
+  members : (member_count d == 3) ≡ true
+  word : string_in (codes "do") d ≡ Some (codes "text")
+  range : get (codes "range") d ≡ Some (range_value x)
+  found : range_of (range_value x) ≡ Some x
+  limit : get (codes "limit") d ≡ Some (whole n)
+  small : n ≤ MAX_SHOWN
+
+-- what a member is that was read
+range_there : (o : Option Data) (x : Range) → option_and_then range_of o ≡ Some x → (o ≡ Some (range_value x)) × (range_of (range_value x) ≡ Some x)
+range_there None x e = absurd (none-some x e)
+range_there (Some r) x e = let is = (range_exact r x e).0 in (ap Some is, subst (λ v. range_of v ≡ Some x) is e)
+
+text_there : (o : Option Data) (s : List ℕ) → option_and_then as_str o ≡ Some s → o ≡ Some (string s)
+text_there None s e = absurd (none-some s e)
+text_there (Some t) s e = ap Some (string_exact t s e)
+
+limit_there : (o : Option Data) (n : ℕ) → option_and_then (whole_of MAX_SHOWN) o ≡ Some n → (o ≡ Some (whole n)) × (n ≤ MAX_SHOWN)
+limit_there None n e = absurd (none-some n e)
+limit_there (Some t) n e = let exact = whole_exact MAX_SHOWN n t e in (ap Some exact.0, exact.1)
+
+edit_read : (d : Data) (c : Command) (P : Type 0) → (member_count d == 3) ≡ true → string_in (codes "do") d ≡ Some (codes "edit") → edit_of d ≡ Some c
+    → ((x : Range) (s : List ℕ) → command.Edit x s ≡ c → IsEditOf d x s → P) → P
+unfolding edit_of
+edit_read d c P members word e k =
+    option_and_then_some (λ range. option_map (command.Edit range) (string_in (codes "text") d)) (range_in d) c e (λ x x_is rest.
+    behind_map (command.Edit x) (string_in (codes "text") d) c rest (λ s s_is is.
+    let range = range_there (get (codes "range") d) x x_is in
+    k x s is (record { members = members; word = word; range = range.0; found = range.1; text = text_there (get (codes "text") d) s s_is })))
+
+look_read : (d : Data) (c : Command) (P : Type 0) → (member_count d == 3) ≡ true → string_in (codes "do") d ≡ Some (codes "text") → look_of d ≡ Some c
+    → ((x : Range) (n : ℕ) → command.Text x n ≡ c → IsLookOf d x n → P) → P
+unfolding look_of
+look_read d c P members word e k =
+    option_and_then_some (λ range. option_map (command.Text range) (whole_in MAX_SHOWN (codes "limit") d)) (range_in d) c e (λ x x_is rest.
+    behind_map (command.Text x) (whole_in MAX_SHOWN (codes "limit") d) c rest (λ n n_is is.
+    let range = range_there (get (codes "range") d) x x_is in
+    let limit = limit_there (get (codes "limit") d) n n_is in
+    k x n is (record { members = members; word = word; range = range.0; found = range.1; limit = limit.0; small = limit.1 })))
+
+-- a command that was read is an edit or a look
+read_cases : (d : Data) (c : Command) (P : Type 0) → command_of d ≡ Some c → ((x : Range) (s : List ℕ) → command.Edit x s ≡ c → IsEditOf d x s → P)
+    → ((x : Range) (n : ℕ) → command.Text x n ≡ c → IsLookOf d x n → P) → P
+unfolding command_of
+read_cases d c P e edit look =
+    let t = test_some (member_count d == 3) _ c e in
+    elim (either_some (is_word (string_in (codes "do") d) (codes "edit")) (edit_of d) _ c t.1) [
+      | inl one ↦ edit_read d c P t.0 (word_exact _ _ one.0) one.1 edit
+      | inr other ↦ let two = test_some (is_word (string_in (codes "do") d) (codes "text")) (look_of d) c other in look_read d c P t.0 (word_exact _ _ two.0) two.1 look
+    ]
+
+edit_shape : (d : Data) (x : Range) (s : List ℕ) → IsEditOf d x s → (is_misshapen false d ≡ false) × (command_breaks wrong_number false d ≡ false)
+edit_shape d x s h = (rw (h.word, h.members, h.range, h.text) refl, rw (h.word, h.range, h.found, h.text) refl)
+
+look_shape : (d : Data) (x : Range) (n : ℕ) → IsLookOf d x n → (is_misshapen false d ≡ false) × (command_breaks wrong_number false d ≡ false)
+look_shape d x n h = (rw (h.word, h.members, h.range, h.limit) refl, rw (h.word, h.range, h.found, h.limit, le-leb n MAX_SHOWN h.small) refl)
+
+-- what is left of the tests
+three_known : (a b e many : Bool) → a ≡ false → b ≡ many → e ≡ false → first_broken ((a, BadShape) ∷ (b, TooMany) ∷ (e, BadNumber) ∷ []) ≡ cond many (Some TooMany) None
+three_known a b e many shape is number = rw (shape, is, number) refl
+
+three_left : (room a b e : Bool) → a ≡ false → e ≡ true → (room ≡ true → b ≡ false) → (room ≡ false → b ≡ true) → first_broken ((a, BadShape) ∷ (b, TooMany) ∷ (e, BadNumber) ∷ []) ≡ cond room (Some BadNumber) (Some TooMany)
+three_left true a b e shape number fits full = let few : b ≡ false = fits refl in rw (shape, few, number) refl
+three_left false a b e shape number fits full = let many : b ≡ true = full refl in rw (shape, many) refl
+
+edit_again : (d : Data) (x : Range) (s : List ℕ) → IsEditOf d x s → command_of d ≡ Some (command.Edit x s)
+unfolding command_of edit_of
+edit_again d x s h = rw (h.members, h.word, h.range, h.found, h.text) refl
+
+look_again : (d : Data) (x : Range) (n : ℕ) → IsLookOf d x n → command_of d ≡ Some (command.Text x n)
+unfolding command_of look_of
+look_again d x n h = rw (h.members, h.word, h.range, h.found, h.limit, le-leb n MAX_SHOWN h.small) refl
+
+edit_members : (d : Data) (x : Range) (s : List ℕ) → IsEditOf d x s → HasMembers (codes "edit") (codes "range") (codes "text") d (range_value x) (string s)
+edit_members d x s h = record { word_is = h.word; first = h.range; second = h.text }
+
+look_members : (d : Data) (x : Range) (n : ℕ) → IsLookOf d x n → HasMembers (codes "text") (codes "range") (codes "limit") d (range_value x) (whole n)
+look_members d x n h = record { word_is = h.word; first = h.range; second = h.limit }
+
+-- a command that is read breaks no rule but that there is too much of something
+edit_broken : (b : rules.Before) (d : Data) (x : Range) (s : List ℕ) (many : Bool) → IsEditOf d x s → is_too_many b d ≡ many → first_broken (command_tests false b d) ≡ cond many (Some TooMany) None
+edit_broken b d x s many h is = let shape = edit_shape d x s h in edit_tests b d _ _ (edit_members d x s h) ∙ three_known _ _ _ many shape.0 is shape.1
+
+look_broken : (b : rules.Before) (d : Data) (x : Range) (n : ℕ) (many : Bool) → IsLookOf d x n → is_too_many b d ≡ many → first_broken (command_tests false b d) ≡ cond many (Some TooMany) None
+look_broken b d x n many h is = let shape = look_shape d x n h in look_tests b d _ _ (look_members d x n h) ∙ three_known _ _ _ many shape.0 is shape.1
+
+edit_counted : (old new : Before) (d : Data) (x : Range) (s : List ℕ) → IsEditOf d x s → has_room old false ≡ true → new.commands ≡ old.commands + 1 → new.readings ≡ old.readings + 0 → IsRead old new d (command.Edit x s)
+edit_counted old new d x s h room commands readings = record { kept = edit_broken (counted old) d x s false h (edit_room old d h.word room); is = edit_again d x s h; after = rw (commands, readings, h.word) refl }
+
+look_counted : (old new : Before) (d : Data) (x : Range) (n : ℕ) → IsLookOf d x n → has_room old true ≡ true → new.commands ≡ old.commands + 1 → new.readings ≡ old.readings + 1 → IsRead old new d (command.Text x n)
+look_counted old new d x n h room commands readings = record { kept = look_broken (counted old) d x n false h (look_room old d h.word room); is = look_again d x n h; after = rw (commands, readings, h.word) refl }
+
+pub command_counted : (old new : Before) (d : Data) (c : Command) → command_of d ≡ Some c → has_room old (is_reading c) ≡ true → new.commands ≡ old.commands + 1 → new.readings ≡ old.readings + rules.one_if (is_reading c) → IsRead old new d c
+command_counted old new d c e room commands readings =
+    read_cases d c (IsRead old new d c) e
+    (λ x s is h. subst (IsRead old new d) is (edit_counted old new d x s h (subst (λ v. has_room old (is_reading v) ≡ true) (sym is) room) commands (subst (λ v. new.readings ≡ old.readings + rules.one_if (is_reading v)) (sym is) readings)))
+    (λ x n is h. subst (IsRead old new d) is (look_counted old new d x n h (subst (λ v. has_room old (is_reading v) ≡ true) (sym is) room) commands (subst (λ v. new.readings ≡ old.readings + rules.one_if (is_reading v)) (sym is) readings)))
+
+pub command_over : (b : Before) (d : Data) (c : Command) → command_of d ≡ Some c → has_room b (is_reading c) ≡ false → first_broken (command_tests false (counted b) d) ≡ Some TooMany
+command_over b d c e full =
+    read_cases d c (first_broken (command_tests false (counted b) d) ≡ Some TooMany) e
+    (λ x s is h. edit_broken (counted b) d x s true h (edit_full b d h.word (subst (λ v. has_room b (is_reading v) ≡ false) (sym is) full)))
+    (λ x n is h. look_broken (counted b) d x n true h (look_full b d h.word (subst (λ v. has_room b (is_reading v) ≡ false) (sym is) full)))
+
+-- ---- commands that aren't read
+
+pub shape_broken : (b : rules.Before) (d : Data) → is_misshapen false d ≡ true → first_broken (command_tests false b d) ≡ Some BadShape
+shape_broken b d h = rw h refl
+
+-- the word of a command whose shape is right
+word_cases : (x y z : Bool) → ((not (x || (y || false)) && true) || z) ≡ false → ((x ≡ true) ⊎ (y ≡ true)) × (z ≡ false)
+word_cases true y z h = (inl refl, h)
+word_cases false true z h = (inr refl, h)
+word_cases false false z h = absurd (false≢true (sym h))
+
+-- a member that has the kind that is asked for is there
+member_there : (k : Kind) (o : Option Data) → field_breaks wrong_kind true k o ≡ false → (v : Data) × (o ≡ Some v) × (wrong_kind k v ≡ false)
+member_there k None h = absurd (false≢true (sym h))
+member_there k (Some v) h = (v, refl, h)
+
+edit_kinds : (d : Data) → string_in (codes "do") d ≡ Some (codes "edit")
+    → command_breaks wrong_kind true d ≡ (not (member_count d == 3) || (field_breaks wrong_kind true kind.range (get (codes "range") d) || (field_breaks wrong_kind true kind.text (get (codes "text") d) || false)))
+edit_kinds d word = rw word refl
+
+look_kinds : (d : Data) → string_in (codes "do") d ≡ Some (codes "text")
+    → command_breaks wrong_kind true d ≡ (not (member_count d == 3) || (field_breaks wrong_kind true kind.range (get (codes "range") d) || (field_breaks wrong_kind true (kind.whole MAX_SHOWN) (get (codes "limit") d) || false)))
+look_kinds d word = rw word refl
+
+not_text : (d : Data) → string_in (codes "do") d ≡ Some (codes "edit") → is_do (codes "text") d ≡ false
+not_text d word = rw word refl
+
+-- its numbers are wrong, since it isn't read
+edit_number : (d r v : Data) (s : List ℕ) (o : Option Range) → HasMembers (codes "edit") (codes "range") (codes "text") d r v → (member_count d == 3) ≡ true → as_str v ≡ Some s → range_of r ≡ o → command_of d ≡ None → command_breaks wrong_number false d ≡ true
+unfolding command_of edit_of
+edit_number d r v s None h members text is e = rw (h.word_is, h.first, h.second, is) refl
+edit_number d r v s (Some x) h members text is e =
+    let read : command_of d ≡ Some (command.Edit x s) = rw (members, h.word_is, h.first, h.second, is, text) refl in
+    absurd (none-some _ (sym e ∙ read))
+
+look_number : (d r v : Data) (o : Option Range) (l : Option ℕ) → HasMembers (codes "text") (codes "range") (codes "limit") d r v → (member_count d == 3) ≡ true → range_of r ≡ o → whole_of MAX_SHOWN v ≡ l → command_of d ≡ None → command_breaks wrong_number false d ≡ true
+unfolding command_of look_of
+look_number d r v None l h members is limit e = rw (h.word_is, h.first, h.second, is) refl
+look_number d r v (Some x) None h members is limit e = rw (h.word_is, h.first, h.second, is, limit) refl
+look_number d r v (Some x) (Some n) h members is limit e =
+    let read : command_of d ≡ Some (command.Text x n) = rw (members, h.word_is, h.first, h.second, is, limit) refl in
+    absurd (none-some _ (sym e ∙ read))
+
+edit_unread : (b : Before) (d : Data) (room : Bool) → is_misshapen false d ≡ false → command_breaks wrong_kind true d ≡ false → string_in (codes "do") d ≡ Some (codes "edit") → command_of d ≡ None → has_room b false ≡ room
+    → first_broken (command_tests false (counted b) d) ≡ cond room (Some BadNumber) (Some TooMany)
+edit_unread b d room shape kinds word e is =
+    let one = or_false (not (member_count d == 3)) _ (sym (edit_kinds d word) ∙ kinds) in
+    let two = or_false (field_breaks wrong_kind true kind.range (get (codes "range") d)) _ one.1 in
+    let range = member_there kind.range (get (codes "range") d) two.0 in
+    let text = member_there kind.text (get (codes "text") d) (or_false (field_breaks wrong_kind true kind.text (get (codes "text") d)) false two.1).0 in
+    let s = there (as_str text.0) text.2 in
+    let has : HasMembers (codes "edit") (codes "range") (codes "text") d range.0 text.0 = record { word_is = word; first = range.1; second = text.1 } in
+    let number = edit_number d range.0 text.0 s.0 (range_of range.0) has (not-false _ one.0) s.1 refl e in
+    edit_tests (counted b) d range.0 text.0 has ∙ three_left room _ _ _ shape number (λ fits. edit_room b d word (is ∙ fits)) (λ over. edit_full b d word (is ∙ over))
+
+look_unread : (b : Before) (d : Data) (room : Bool) → is_misshapen false d ≡ false → command_breaks wrong_kind true d ≡ false → string_in (codes "do") d ≡ Some (codes "text") → command_of d ≡ None → has_room b true ≡ room
+    → first_broken (command_tests false (counted b) d) ≡ cond room (Some BadNumber) (Some TooMany)
+look_unread b d room shape kinds word e is =
+    let one = or_false (not (member_count d == 3)) _ (sym (look_kinds d word) ∙ kinds) in
+    let two = or_false (field_breaks wrong_kind true kind.range (get (codes "range") d)) _ one.1 in
+    let range = member_there kind.range (get (codes "range") d) two.0 in
+    let limit = member_there (kind.whole MAX_SHOWN) (get (codes "limit") d) (or_false (field_breaks wrong_kind true (kind.whole MAX_SHOWN) (get (codes "limit") d)) false two.1).0 in
+    let has : HasMembers (codes "text") (codes "range") (codes "limit") d range.0 limit.0 = record { word_is = word; first = range.1; second = limit.1 } in
+    let number = look_number d range.0 limit.0 (range_of range.0) (whole_of MAX_SHOWN limit.0) has (not-false _ one.0) refl refl e in
+    look_tests (counted b) d range.0 limit.0 has ∙ three_left room _ _ _ shape number (λ fits. look_room b d word (is ∙ fits)) (λ over. look_full b d word (is ∙ over))
+
+-- a command whose shape is right and that isn't read: there is too much of something, or its numbers are wrong
+pub unread_broken : (b : Before) (d : Data) → is_misshapen false d ≡ false → command_of d ≡ None → first_broken (command_tests false (counted b) d) ≡ cond (has_room b (is_do (codes "text") d)) (Some BadNumber) (Some TooMany)
+unread_broken b d shape e =
+    let parts = word_cases (is_word (string_in (codes "do") d) (codes "edit")) (is_word (string_in (codes "do") d) (codes "text")) (command_breaks wrong_kind true d) shape in
+    elim parts.0 [
+      | inl edit ↦ let word = word_exact _ _ edit in edit_unread b d (has_room b (is_do (codes "text") d)) shape parts.1 word e (ap (has_room b) (sym (not_text d word)))
+      | inr look ↦ look_unread b d (has_room b (is_do (codes "text") d)) shape parts.1 (word_exact _ _ look) e (ap (has_room b) (sym look))
+    ]
+
+-- ---- what the reader answers
+
+pub command_taken : (old new : Before) (d : Data) (c : Command) (shows added : Bool) → command_of d ≡ Some c → shows ≡ is_reading c → added ≡ has_room old shows → added ≡ true
+    → new.commands ≡ old.commands + rules.one_if added → new.readings ≡ old.readings + rules.one_if (added && shows) → IsRead old new d c
+command_taken old new d c shows true e is room h commands readings = command_counted old new d c e (ap (has_room old) (sym is) ∙ sym room) commands (readings ∙ ap (λ s. old.readings + rules.one_if s) is)
+command_taken old new d c shows false e is room h commands readings = absurd (false≢true h)
+
+pub command_left : (b : Before) (d : Data) (c : Command) (shows added : Bool) → command_of d ≡ Some c → shows ≡ is_reading c → added ≡ has_room b shows → added ≡ false → first_broken (command_tests false (counted b) d) ≡ Some TooMany
+command_left b d c shows added e is room h = command_over b d c e (ap (has_room b) (sym is) ∙ sym room ∙ h)
+
+pub number_broken : (b : Before) (d : Data) (shape shows room : Bool) → shape ≡ is_misshapen false d → shape ≡ false → shows ≡ is_do (codes "text") d → room ≡ has_room b shows → room ≡ true → command_of d ≡ None
+    → first_broken (command_tests false (counted b) d) ≡ Some BadNumber
+number_broken b d shape shows room is shaped shows_is room_is h e =
+    let fits : has_room b (is_do (codes "text") d) ≡ true = ap (has_room b) (sym shows_is) ∙ sym room_is ∙ h in
+    unread_broken b d (sym is ∙ shaped) e ∙ ap (λ r. cond r (Some BadNumber) (Some TooMany)) fits
