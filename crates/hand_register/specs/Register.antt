@@ -1,5 +1,5 @@
 -- What the register means: its calls, and what they make of its state.
-use Rattle.std.specs.Prelude.{◌≡◌, ℕ, ◌+◌, ◌≤◌, min, Bool, true, false, cond, nat_lt, List, [], ◌∷◌, slice_index_or, slice_set, Option, None, Some, MatchOption, ⊤}
+use Rattle.std.specs.Prelude.{◌≡◌, refl, ℕ, ◌+◌, ◌≤◌, min, Bool, true, false, cond, nat_lt, List, [], ◌∷◌, slice_index_or, slice_set, Option, None, Some, MatchOption, ⊤}
 use Rattle.atomic_table.specs.Seated.{TableId}
 use Rattle.points.specs.declared.limits.TheConstants.{MAX_HANDS}
 use Rattle.turn_table.specs.declared.view.View.{View}
@@ -101,6 +101,14 @@ told Rest r = Rested
 told MakeHand r = Handed (hand_number r)
 told (GiveBack n) r = GivenBack n
 told Refuse r = Rested
+
+pub by_call : (x : Shown) (c : Call) (r s : Reply) → next x (told c r) ≡ next x (told c s)
+by_call x Add r s = refl
+by_call x Guess r s = refl
+by_call x Rest r s = refl
+by_call x MakeHand r s = refl
+by_call x (GiveBack n) r s = refl
+by_call x Refuse r s = refl
 
 abbrev pub back : Call → Option ℕ
 back Add = None

@@ -3,7 +3,7 @@ ghost use Rattle.turn_table.specs.Meaning.{first_free};
 ghost use Rattle.turn_table.specs.Turns.{IsReady};
 ghost use Rattle.turn_table.specs.Views.{holding};
 ghost use Rattle.hand_register.specs.declared.register.Call.TheVariants.{Hand};
-ghost use Rattle.hand_register.specs.Register.{shown, meaning, Meets, told, given, back, is_free, Makes};
+ghost use Rattle.hand_register.specs.Register.{shown, meaning, Meets, told, by_call, given, back, is_free, Makes};
 
 use points::MAX_HANDS;
 use std::collections::LinkedList;
@@ -129,6 +129,8 @@ impl Object for Register {
     ghost is_free = { is_free };
 
     ghost given = { given };
+
+    ghost by_call = { by_call };
 
     fn play<T: Turn<Register>>(&mut self, turn: &mut T, call: Call) -> Result<Reply, Call> {
         match call {

@@ -72,4 +72,7 @@ pub trait Object: Send + Drop {
         ensures outs { IfOk result (λ r. Outs meaning (state self.old) (made_of (T.view turn.new)) (back call) (state self.new)) }
         ensures err { IfErr result (λ c. (c ≡ call) × (state self.new ≡ state self.old) × (T.view turn.new ≡ T.view turn.old)) }
         ensures free { is_free call ≡ true → IsOk result };
+
+    // What a call makes of it at a state doesn't depend on the reply that stands in the entry.
+    ghost by_call: { (x : Self.State) (c : Self.Call) (r s : Self.Reply) → meaning.next x (told c r) ≡ meaning.next x (told c s) };
 }
