@@ -110,19 +110,35 @@ fn inverse_gives_the_text_back(rt: HostRuntime) {
     assert!(rt; gives_back(rt.alloc(), &TWO, "abcdefg"));
 }
 
+// There is no composition, for whatever cause.
+#[derive(Drop)]
+struct Unmade;
+
+impl From<ApplyRefusal> for Unmade {
+    fn from(_: ApplyRefusal) -> Self {
+        Unmade
+    }
+}
+
+impl From<PatchRefusal> for Unmade {
+    fn from(_: PatchRefusal) -> Self {
+        Unmade
+    }
+}
+
 // The patch of both in turn, where a text fits the first and what it makes of that fits the second.
 fn composed_on(
     alloc: Global,
     first: &Patch,
     second: &Patch,
     text: &LineText,
-) -> Result<Patch, Fail> {
+) -> Result<Patch, Unmade> {
     let between = apply(alloc, first, text)?;
     laws::composed_alike(first, second);
     if fits(second, &between) {
         return Ok(compose(alloc, first, second)?);
     }
-    Ok(Err("the text between doesn't fit the second patch")?)
+    Err(Unmade)
 }
 
 // Patches of the changes of rows, and of both in turn on a text.
@@ -165,15 +181,11 @@ fn deletion_across_changes_joins_them(rt: HostRuntime) {
     assert!(rt; makes(rt.alloc(), &both, "abcdefgh", "aXZh"));
 }
 
-// What is said against composing with the patch of a line feed before all else, which fits every text.
-fn then_line_feed(alloc: Global, first: &Patch) -> Option<PatchRefusal> {
-    match line_feed_first(alloc) {
-        Ok(second) => {
-            some_text_fits(first);
-            compose(alloc, first, &second).err()
-        }
-        Err(_) => None,
-    }
+// Composes with the patch of a line feed before all else, which fits every text.
+fn then_line_feed(alloc: Global, first: &Patch) -> Result<Option<PatchRefusal>, Fail> {
+    let second = line_feed_first(alloc)?;
+    some_text_fits(first);
+    Ok(compose(alloc, first, &second).err())
 }
 
 // A line feed put in at the start of the text.
@@ -205,7 +217,7 @@ fn refuses_a_composition_past_the_greatest_row(rt: HostRuntime) -> Result<(), Fa
     let (row, last) = (MAX_COORD - 1, MAX_COORD);
     let rows = [([row, 0, row, 0], "", [row, 0, last, 0], "\n")];
     let first = patch_of(rt.alloc(), &rows).ok_or("no patch")?;
-    assert!(rt; then_line_feed(rt.alloc(), &first) == Some(PatchRefusal::TooFar));
+    assert!(rt; then_line_feed(rt.alloc(), &first)? == Some(PatchRefusal::TooFar));
     Ok(())
 }
 

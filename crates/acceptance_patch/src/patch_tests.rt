@@ -157,10 +157,11 @@ fn finds_changes_by_points(rt: HostRuntime) -> Result<(), Fail> {
 // Whether these are the changes whose old range, or new one, touches the range.
 fn touches(patch: &Patch, of_new: bool, ends: [u32; 4], run: [usize; 2]) -> bool {
     match range(ends) {
-        Some(range) => touching(patch, of_new, range) == Run {
-            first: run[0],
-            count: run[1],
-        },
+        Some(range) => touching(patch, of_new, range)
+            == Run {
+                first: run[0],
+                count: run[1],
+            },
         None => false,
     }
 }

@@ -1,5 +1,5 @@
 //! Texts by rows and columns: clipping, edits, look-ups, lines and their endings, and the limit.
-use line_text::{Ending, LineText, Replaced, TextRefusal};
+use line_text::{Ending, LineText, Replaced, TextPart, TextRefusal};
 use points::{MAX_UNITS, Point, Range, Units};
 use std::alloc::Global;
 use std::test::Fail;
@@ -25,15 +25,17 @@ fn replaced(
     Some(text.replace(Range::new(start, end), new))
 }
 
-// Whether an edit answers these three points: the clipped ends, and the end of its new units.
-fn edits(
-    text: &mut LineText,
-    range: (Point, Point),
-    new: &str,
-    ends: (Point, Point, Point),
-) -> bool {
+// The points that an edit answers: the clipped ends, and the end of its new units.
+type Ends = (Point, Point, Point);
+
+fn has_ends(replaced: Replaced, ends: Ends) -> bool {
+    replaced.from == ends.0 && replaced.to == ends.1 && replaced.end == ends.2
+}
+
+// Whether an edit answers these three points.
+fn edits(text: &mut LineText, range: (Point, Point), new: &str, ends: Ends) -> bool {
     match replaced(text, range.0, range.1, new) {
-        Some(Ok(replaced)) => (replaced.from, replaced.to, replaced.end) == ends,
+        Some(Ok(replaced)) => has_ends(replaced, ends),
         _ => false,
     }
 }
@@ -48,7 +50,7 @@ fn edits_to(
     text: &str,
     range: (Point, Point),
     new: &str,
-    ends: (Point, Point, Point),
+    ends: Ends,
     units: &[u16],
 ) -> bool {
     match made(alloc, text) {
@@ -98,7 +100,13 @@ fn is_encoded(alloc: Global, text: &str, units: &[u16]) -> bool {
 fn encodes_as_utf16(rt: HostRuntime) {
     // U+10437 and U+24B62 are the examples of the Unicode Standard and of RFC 2781.
     let expected = [0xd801, 0xdc37, 0xd852, 0xdf62, 0xffff, 0, 0xfeff];
-    assert!(rt; is_encoded(rt.alloc(), "\u{10437}\u{24b62}\u{ffff}\0\u{feff}", &expected));
+    assert!(rt;
+        is_encoded(
+            rt.alloc(),
+            "\u{10437}\u{24b62}\u{ffff}\0\u{feff}",
+            &expected
+        )
+    );
 }
 
 // Whether the text has the point at the offset, and finds it again.
@@ -181,7 +189,10 @@ fn tells_lines_and_endings(rt: HostRuntime) -> Result<(), Fail> {
         (4, "d\r", Ending::Last),
     ];
     for (row, line, ending) in rows {
-        assert!(rt; has_line(rt.alloc(), &text, row, line, ending), "in row {row}");
+        assert!(rt;
+            has_line(rt.alloc(), &text, row, line, ending),
+            "in row {row}"
+        );
     }
     assert!(rt; has_rows(&text, 5));
     Ok(())
@@ -294,10 +305,17 @@ fn put_together(
 
 // Puts a part of another text at the end, where it has such a part and the result isn't too long.
 fn append_part(text: &mut LineText, other: &LineText, from: usize, to: usize) -> bool {
-    if from > to || to > other.len() || text.len() + (to - from) > MAX_UNITS {
+    if from > to || to > other.len() {
         return false;
     }
-    text.append(other.part(from, to)).is_ok()
+    append_piece(text, other.part(from, to))
+}
+
+fn append_piece(text: &mut LineText, piece: TextPart<'_>) -> bool {
+    if text.len() + piece.len() > MAX_UNITS {
+        return false;
+    }
+    text.append(piece).is_ok()
 }
 
 // The text of "d\nef" and "gh\ni".

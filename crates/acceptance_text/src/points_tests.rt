@@ -187,7 +187,9 @@ fn copy_reads(units: &Units, text: &str) -> bool {
 // Whether these units are read as this text, and so is a copy of them.
 fn is_mended(alloc: Global, items: &[u16], text: &str) -> bool {
     match put_in(alloc, items) {
-        Some(units) => units.len() == items.len() && reads(&units, text) && copy_reads(&units, text),
+        Some(units) => units.len() == items.len()
+            && reads(&units, text)
+            && copy_reads(&units, text),
         None => false,
     }
 }
@@ -201,6 +203,16 @@ fn encodes_and_decodes_units(rt: HostRuntime) {
     // A high surrogate without its partner, and a low one.
     assert!(rt; is_mended(rt.alloc(), &[0xd83d, 97, 0xde00], "\u{fffd}a\u{fffd}"));
     assert_eq!(rt; Units::new(rt.alloc()).len(), 0);
+}
+
+// Whether a list of ids gives back the ids that it was made of.
+fn keeps_ids(ids: Vec<u32>) -> bool {
+    let count = ids.len();
+    let ids = Ids::from_vec(ids);
+    ids.len() == count
+        && ids.iter().count() == count
+        && ids.as_slice().len() == count
+        && ids.into_vec().len() == count
 }
 
 #[test]
