@@ -325,10 +325,15 @@ fn parts_together(alloc: Global) -> Option<LineText> {
     put_together(alloc, &first, 4, &second, 4)
 }
 
+// Whether the parts have these units, and the third row starts there.
+fn are_together(alloc: Global, units: &[u16], row: usize) -> bool {
+    match parts_together(alloc) {
+        Some(text) => has_units(&text, units) && finds(&text, row, at(2, 0)),
+        None => false,
+    }
+}
+
 #[test]
-fn carries_the_starts_of_parts_over(rt: HostRuntime) -> Result<(), Fail> {
-    let text = parts_together(rt.alloc()).ok_or("no text")?;
-    assert!(rt; has_units(&text, &[100, 10, 101, 102, 103, 104, 10, 105]));
-    assert!(rt; finds(&text, 7, at(2, 0)));
-    Ok(())
+fn carries_the_starts_of_parts_over(rt: HostRuntime) {
+    assert!(rt; are_together(rt.alloc(), &[100, 10, 101, 102, 103, 104, 10, 105], 7));
 }
