@@ -1,7 +1,7 @@
 //! Texts in layers: a text with no layer above it is read as it is, whole, by points and by pieces, and so is a clone.
 use chains::{Chain, Spot};
 use line_text::LineText;
-use points::{Point, Units};
+use points::{NoMemory, Point, Units};
 use std::alloc::Global;
 use std::test::Fail;
 
@@ -14,9 +14,11 @@ const TEXT: &str = "ab\r\nc\u{1f600}d";
 
 const UNITS: [u16; 8] = [97, 98, 13, 10, 99, 0xd83d, 0xde00, 100];
 
-fn chain_of_text(alloc: Global) -> Option<Chain> {
-    let text = LineText::from_str(alloc, TEXT).ok()?;
-    Chain::of(alloc, text).ok()
+fn chain_of_text(alloc: Global) -> Result<Option<Chain>, NoMemory> {
+    match LineText::from_str(alloc, TEXT) {
+        Ok(text) => Ok(Some(Chain::of(alloc, text)?)),
+        Err(_) => Ok(None),
+    }
 }
 
 // Whether the range is lent as one piece with these units.
@@ -56,78 +58,55 @@ fn is_whole(chain: &Chain) -> bool {
     chain.depth() == 1 && chain.len() == 8 && chain.end() == end
 }
 
-// The units of `x` and those of a range behind them, where the range is there.
-fn appended(alloc: Global, chain: &Chain, to: usize) -> Option<Units> {
-    let mut into = Units::from_str(alloc, "x").ok()?;
-    if to > chain.len() {
-        return None;
-    }
-    chain.units(alloc, 0, to, &mut into).ok()?;
-    Some(into)
-}
-
 // Whether a range is put behind what the list has.
-fn is_appended(alloc: Global, chain: &Chain, to: usize, expected: &[u16]) -> bool {
-    match appended(alloc, chain, to) {
-        Some(units) => units.as_slice() == expected,
-        None => false,
+fn is_appended(
+    alloc: Global,
+    chain: &Chain,
+    to: usize,
+    expected: &[u16],
+) -> Result<bool, NoMemory> {
+    let mut into = Units::from_str(alloc, "x")?;
+    if to > chain.len() {
+        return Ok(false);
     }
+    chain.units(alloc, 0, to, &mut into)?;
+    Ok(into.as_slice() == expected)
 }
 
-fn has_text(alloc: Global, chain: &Chain, expected: &str) -> bool {
-    match chain.to_text(alloc) {
-        Ok(text) => text.as_str() == expected,
-        Err(_) => false,
-    }
-}
-
-// Whether the text is lent whole, in part, and with no piece at its end.
-fn lends_pieces(chain: &Chain) -> bool {
-    is_whole(chain)
-        && is_one_piece(chain, 0, 8, &UNITS)
-        && is_one_piece(chain, 3, 6, &[10, 99, 0xd83d])
-        && is_no_piece(chain, 8)
-}
-
-#[test]
-fn lends_a_text_without_layers(rt: HostRuntime) -> Result<(), Fail> {
-    let chain = chain_of_text(rt.alloc()).ok_or("no chain")?;
-    assert!(rt; lends_pieces(&chain));
-    Ok(())
+fn has_text(alloc: Global, chain: &Chain, expected: &str) -> Result<bool, NoMemory> {
+    let text = chain.to_text(alloc)?;
+    Ok(text.as_str() == expected)
 }
 
 #[test]
 fn reads_a_text_without_layers(rt: HostRuntime) -> Result<(), Fail> {
-    let chain = chain_of_text(rt.alloc()).ok_or("no chain")?;
-    assert!(rt; has_text(rt.alloc(), &chain, TEXT));
-    assert!(rt; is_appended(rt.alloc(), &chain, 2, &[120, 97, 98]));
+    let chain = chain_of_text(rt.alloc())?.ok_or("too long")?;
+    assert!(rt; is_whole(&chain));
+    assert!(rt; is_one_piece(&chain, 0, 8, &UNITS));
+    assert!(rt; is_one_piece(&chain, 3, 6, &[10, 99, 0xd83d]));
+    assert!(rt; is_no_piece(&chain, 8));
+    assert!(rt; has_text(rt.alloc(), &chain, TEXT)?);
+    assert!(rt; is_appended(rt.alloc(), &chain, 2, &[120, 97, 98])?);
     Ok(())
-}
-
-fn names_points(chain: &Chain) -> bool {
-    is_point(chain, 0, at(0, 0))
-        && is_point(chain, 3, at(0, 3))
-        && is_point(chain, 4, at(1, 0))
-        && is_point(chain, 8, at(1, 4))
 }
 
 #[test]
 fn names_the_points_of_offsets(rt: HostRuntime) -> Result<(), Fail> {
-    let chain = chain_of_text(rt.alloc()).ok_or("no chain")?;
-    assert!(rt; names_points(&chain));
+    let chain = chain_of_text(rt.alloc())?.ok_or("too long")?;
+    assert!(rt; is_point(&chain, 0, at(0, 0)));
+    assert!(rt; is_point(&chain, 3, at(0, 3)));
+    assert!(rt; is_point(&chain, 4, at(1, 0)));
+    assert!(rt; is_point(&chain, 8, at(1, 4)));
     assert!(rt; is_found(&chain, 0) && is_found(&chain, 4) && is_found(&chain, 8));
     Ok(())
 }
 
-// A clone of a chain that is gone.
-fn cloned(alloc: Global) -> Option<Chain> {
-    let chain = chain_of_text(alloc)?;
-    chain.try_clone().ok()
-}
-
 #[test]
 fn a_clone_shares_the_text(rt: HostRuntime) -> Result<(), Fail> {
-    let clone = cloned(rt.alloc()).ok_or("no clone")?;
-    assert!(rt; is_whole(&clone) && is_one_piece(&clone, 0, 8, &UNITS));
+    let chain = chain_of_text(rt.alloc())?.ok_or("too long")?;
+    let clone = chain.try_clone()?;
+    drop(chain);
+    assert!(rt; is_whole(&clone));
+    assert!(rt; is_one_piece(&clone, 0, 8, &UNITS));
     Ok(())
 }

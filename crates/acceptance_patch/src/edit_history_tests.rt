@@ -1,10 +1,20 @@
 //! Steps: what an undo and a redo lend, and what the ring forgets.
-use crate::patch_cases::{at, insertion};
+use crate::patch_cases::{at, range, units};
 use edit_history::Steps;
 use patch::Change;
 use points::MAX_STEPS;
 use std::alloc::Global;
 use std::test::Fail;
+
+// An insertion of `x` at the start of a row.
+fn step(alloc: Global, row: u32) -> Result<Change, Fail> {
+    Ok(Change {
+        old_range: range([row, 0, row, 0])?,
+        new_range: range([row, 0, row, 1])?,
+        old_text: units(alloc, "")?,
+        new_text: units(alloc, "x")?,
+    })
+}
 
 // Whether a step is the insertion at that row.
 fn is_step(step: Option<&Change>, row: u32) -> bool {
@@ -14,85 +24,57 @@ fn is_step(step: Option<&Change>, row: u32) -> bool {
     }
 }
 
-// Pushes the insertion at a row, and nothing falls out.
-fn pushes(steps: &mut Steps, alloc: Global, row: u32) -> bool {
-    match insertion(alloc, row) {
-        Some(change) => steps.push(change).is_none(),
-        None => false,
+// Steps with these rows pushed in order.
+fn steps_of(alloc: Global, rows: &[u32]) -> Result<Steps, Fail> {
+    let mut steps = Steps::new(alloc)?;
+    for row in rows {
+        steps.push(step(alloc, *row)?);
     }
-}
-
-// Pushes the insertion at a row, and the one at another row falls out.
-fn pushes_out(steps: &mut Steps, alloc: Global, row: u32, fallen: u32) -> bool {
-    match insertion(alloc, row) {
-        Some(change) => is_step(steps.push(change).as_ref(), fallen),
-        None => false,
-    }
-}
-
-fn undoes(steps: &mut Steps, row: u32) -> bool {
-    is_step(steps.undo(), row)
-}
-
-fn redoes(steps: &mut Steps, row: u32) -> bool {
-    is_step(steps.redo(), row)
-}
-
-fn has_no_past(steps: &mut Steps) -> bool {
-    steps.undo().is_none()
-}
-
-fn has_no_future(steps: &mut Steps) -> bool {
-    steps.redo().is_none()
+    Ok(steps)
 }
 
 #[test]
 fn takes_back_and_makes_again(rt: HostRuntime) -> Result<(), Fail> {
-    let mut steps = Steps::new(rt.alloc())?;
-    assert!(rt; pushes(&mut steps, rt.alloc(), 1) && pushes(&mut steps, rt.alloc(), 2));
-    assert!(rt; has_no_future(&mut steps));
-    assert!(rt; undoes(&mut steps, 2) && undoes(&mut steps, 1) && has_no_past(&mut steps));
-    assert!(rt; redoes(&mut steps, 1) && redoes(&mut steps, 2) && has_no_future(&mut steps));
+    let mut steps = steps_of(rt.alloc(), &[1, 2])?;
+    assert!(rt; steps.redo().is_none());
+    for row in [2, 1] {
+        assert!(rt; is_step(steps.undo(), row), "{row}");
+    }
+    assert!(rt; steps.undo().is_none());
+    for row in [1, 2] {
+        assert!(rt; is_step(steps.redo(), row), "{row}");
+    }
+    assert!(rt; steps.redo().is_none());
     Ok(())
 }
 
 #[test]
 fn a_new_step_empties_the_future(rt: HostRuntime) -> Result<(), Fail> {
-    let mut steps = Steps::new(rt.alloc())?;
-    assert!(rt; pushes(&mut steps, rt.alloc(), 1) && pushes(&mut steps, rt.alloc(), 2));
-    assert!(rt; undoes(&mut steps, 2));
-    assert!(rt; pushes(&mut steps, rt.alloc(), 3));
-    assert!(rt; has_no_future(&mut steps));
-    assert!(rt; undoes(&mut steps, 3) && undoes(&mut steps, 1) && has_no_past(&mut steps));
+    let mut steps = steps_of(rt.alloc(), &[1, 2])?;
+    assert!(rt; is_step(steps.undo(), 2));
+    let fell = steps.push(step(rt.alloc(), 3)?);
+    assert!(rt; fell.is_none());
+    assert!(rt; steps.redo().is_none());
+    for row in [3, 1] {
+        assert!(rt; is_step(steps.undo(), row), "{row}");
+    }
+    assert!(rt; steps.undo().is_none());
     Ok(())
-}
-
-// Fills the ring with the insertions at the rows from 0 on.
-fn fills(steps: &mut Steps, alloc: Global) -> bool {
-    for row in 0..MAX_STEPS as u32 {
-        if !pushes(steps, alloc, row) {
-            return false;
-        }
-    }
-    true
-}
-
-// Whether all steps but that at row 0 are undone, the newest first.
-fn undoes_all_but_the_first(steps: &mut Steps) -> bool {
-    for row in (1..MAX_STEPS as u32 + 1).rev() {
-        if !undoes(steps, row) {
-            return false;
-        }
-    }
-    has_no_past(steps)
 }
 
 #[test]
 fn undo_ring_forgets_the_oldest(rt: HostRuntime) -> Result<(), Fail> {
     let mut steps = Steps::new(rt.alloc())?;
-    assert!(rt; fills(&mut steps, rt.alloc()));
-    assert!(rt; pushes_out(&mut steps, rt.alloc(), MAX_STEPS as u32, 0));
-    assert!(rt; undoes_all_but_the_first(&mut steps));
-    assert!(rt; redoes(&mut steps, 1));
+    for row in 0..MAX_STEPS as u32 {
+        let fell = steps.push(step(rt.alloc(), row)?);
+        assert!(rt; fell.is_none(), "{row}");
+    }
+    let fell = steps.push(step(rt.alloc(), MAX_STEPS as u32)?);
+    assert!(rt; is_step(fell.as_ref(), 0));
+    for row in (1..MAX_STEPS as u32 + 1).rev() {
+        assert!(rt; is_step(steps.undo(), row), "{row}");
+    }
+    assert!(rt; steps.undo().is_none());
+    assert!(rt; is_step(steps.redo(), 1));
     Ok(())
 }

@@ -5,6 +5,7 @@ use patch::{ChangeView, Patch};
 use patch_algebra::apply;
 use points::{Range, Units};
 use std::alloc::Global;
+use std::test::Fail;
 
 /// A unit, with its offset in the original text where it comes from there.
 #[derive(Clone, Copy, Debug, Drop)]
@@ -49,27 +50,22 @@ impl Numbers {
         }
     }
 
-    // One of these units, or 0 where there is none.
-    fn unit(&mut self, of: &[u16]) -> u16 {
-        let at = self.next(of.len());
-        if at < of.len() { of[at] } else { 0 }
-    }
-
     /// Fewer than `most` units, each one of these.
-    pub fn units(&mut self, alloc: Global, most: usize, of: &[u16]) -> Option<Units> {
+    pub fn units(&mut self, alloc: Global, most: usize, of: &[u16]) -> Result<Units, Fail> {
         let mut units = Units::new(alloc);
         for _ in 0..self.next(most) {
-            units.append(&[self.unit(of)]).ok()?;
+            let unit = of.get(self.next(of.len())).ok_or("no such unit")?;
+            units.append(&[*unit])?;
         }
-        Some(units)
+        Ok(units)
     }
 
     /// One edit of a few units in a text of `len` units.
-    pub fn edit(&mut self, alloc: Global, len: usize, of: &[u16]) -> Option<Edit> {
+    pub fn edit(&mut self, alloc: Global, len: usize, of: &[u16]) -> Result<Edit, Fail> {
         let from = self.next(len.saturating_add(1));
         let to = from.saturating_add(self.next(4)).min(len);
         let units = self.units(alloc, 4, of)?;
-        Some(Edit { from, to, units })
+        Ok(Edit { from, to, units })
     }
 }
 
@@ -79,108 +75,99 @@ pub fn units_of(text: &LineText) -> &[u16] {
 }
 
 /// A text with these units.
-pub fn text_of(alloc: Global, units: &[u16]) -> Option<LineText> {
-    LineText::from_units(copied(alloc, units)?).ok()
+pub fn text_of(alloc: Global, units: &[u16]) -> Result<LineText, Fail> {
+    Ok(LineText::from_units(copied(alloc, units)?)?)
 }
 
 /// Equal units.
-pub fn copied(alloc: Global, units: &[u16]) -> Option<Units> {
+pub fn copied(alloc: Global, units: &[u16]) -> Result<Units, Fail> {
     let mut copy = Units::new(alloc);
-    copy.append(units).ok()?;
-    Some(copy)
+    copy.append(units)?;
+    Ok(copy)
 }
 
 /// The way before any edit.
-pub fn way_of(alloc: Global, text: &LineText) -> Option<Way> {
-    let copy = text_of(alloc, units_of(text))?;
-    let tagged = tags_of(alloc, units_of(text))?;
-    Some(Way {
+pub fn way_of(alloc: Global, text: &LineText) -> Result<Way, Fail> {
+    Ok(Way {
         patch: Patch::new(alloc),
-        text: copy,
-        tagged,
+        text: text_of(alloc, units_of(text))?,
+        tagged: tags_of(alloc, units_of(text))?,
     })
 }
 
 // The units with their offsets.
-fn tags_of(alloc: Global, units: &[u16]) -> Option<Vec<Tagged>> {
+fn tags_of(alloc: Global, units: &[u16]) -> Result<Vec<Tagged>, Fail> {
     let mut tagged = Vec::new(alloc);
     for (at, unit) in units.iter().enumerate() {
-        let from = Some(at);
-        tagged.push(Tagged { unit: *unit, from }).ok()?;
+        tagged.push(Tagged {
+            unit: *unit,
+            from: Some(at),
+        })?;
     }
-    Some(tagged)
+    Ok(tagged)
 }
 
 /// The text after an edit.
-pub fn text_after(alloc: Global, text: &LineText, edit: &Edit) -> Option<LineText> {
-    LineText::from_units(units_after(alloc, units_of(text), edit)?).ok()
-}
-
-// The units after an edit.
-fn units_after(alloc: Global, units: &[u16], edit: &Edit) -> Option<Units> {
+pub fn text_after(alloc: Global, text: &LineText, edit: &Edit) -> Result<LineText, Fail> {
+    let units = units_of(text);
     let mut new = copied(alloc, units.get(..edit.from).unwrap_or(&[]))?;
-    new.append(edit.units.as_slice()).ok()?;
-    new.append(units.get(edit.to..).unwrap_or(&[])).ok()?;
-    Some(new)
+    new.append(edit.units.as_slice())?;
+    new.append(units.get(edit.to..).unwrap_or(&[]))?;
+    Ok(LineText::from_units(new)?)
 }
 
 /// The units with tags after an edit.
-pub fn tagged_after(alloc: Global, tagged: &[Tagged], edit: &Edit) -> Option<Vec<Tagged>> {
+pub fn tagged_after(alloc: Global, tagged: &[Tagged], edit: &Edit) -> Result<Vec<Tagged>, Fail> {
     let mut new = Vec::new(alloc);
-    new.extend_from_slice(tagged.get(..edit.from).unwrap_or(&[]))
-        .ok()?;
+    new.extend_from_slice(tagged.get(..edit.from).unwrap_or(&[]))?;
     for unit in edit.units.as_slice() {
-        let from = None;
-        new.push(Tagged { unit: *unit, from }).ok()?;
+        new.push(Tagged {
+            unit: *unit,
+            from: None,
+        })?;
     }
-    new.extend_from_slice(tagged.get(edit.to..).unwrap_or(&[]))
-        .ok()?;
-    Some(new)
+    new.extend_from_slice(tagged.get(edit.to..).unwrap_or(&[]))?;
+    Ok(new)
 }
 
 /// The way after an edit, by a splice of its patch.
-pub fn spliced(alloc: Global, original: &LineText, way: Way, edit: &Edit) -> Option<Way> {
+pub fn spliced(alloc: Global, original: &LineText, way: Way, edit: &Edit) -> Result<Way, Fail> {
     let Way {
         mut patch,
         text,
         tagged,
     } = way;
-    if !splice(alloc, &mut patch, original, edit) {
-        return None;
-    }
-    let text = text_after(alloc, &text, edit)?;
-    let tagged = tagged_after(alloc, tagged.as_slice(), edit)?;
-    Some(Way {
+    splice(alloc, &mut patch, original, edit)?;
+    Ok(Way {
         patch,
-        text,
-        tagged,
+        text: text_after(alloc, &text, edit)?,
+        tagged: tagged_after(alloc, tagged.as_slice(), edit)?,
     })
 }
 
 // Splices the patch by an edit of what it makes of the original text.
-fn splice(alloc: Global, patch: &mut Patch, original: &LineText, edit: &Edit) -> bool {
-    let Ok(made) = apply(alloc, patch, original) else {
-        return false;
-    };
+fn splice(alloc: Global, patch: &mut Patch, original: &LineText, edit: &Edit) -> Result<(), Fail> {
+    let made = apply(alloc, patch, original)?;
     if edit.from > edit.to || edit.to > made.len() {
-        return false;
+        Err("there are no such units")?;
     }
     let start = made.point_at(edit.from);
     let deleted = made.slice(edit.from, edit.to);
-    patch.splice(start, deleted, edit.units.as_slice()).is_ok()
+    patch.splice(start, deleted, edit.units.as_slice())?;
+    Ok(())
 }
 
 /// The range between two offsets.
-pub fn between(text: &LineText, from: usize, to: usize) -> Option<Range> {
+pub fn between(text: &LineText, from: usize, to: usize) -> Result<Range, Fail> {
     if from > to || to > text.len() {
-        return None;
+        Err("an offset is past the text")?;
     }
     let start = text.point_at(from);
     let end = text.point_at(to);
     if start > end {
-        return None;
+        Err("a range ends before it starts")?;
     }
-    Some(Range::new(start, end))
+    Ok(Range::new(start, end))
 }
 
 // Whether the change takes these units of the old text and makes these of the new one.
@@ -190,56 +177,42 @@ fn is_gap(
     new: &LineText,
     from: [usize; 2],
     to: [usize; 2],
-) -> bool {
-    is_part(change.old_range, change.old_text, old, from)
-        && is_part(change.new_range, change.new_text, new, to)
-}
-
-// Whether the range and the units are those between two offsets of a text.
-fn is_part(range: Range, units: &[u16], text: &LineText, ends: [usize; 2]) -> bool {
-    between(text, ends[0], ends[1]) == Some(range)
-        && units_of(text).get(ends[0]..ends[1]) == Some(units)
-}
-
-// Where the tagged unit at a place comes from: the end of the original text behind the last; nowhere where it is new.
-fn origin_of(original: &LineText, tagged: &[Tagged], at: usize) -> Option<usize> {
-    match tagged.get(at) {
-        Some(tag) => tag.from,
-        None => Some(original.len()),
+) -> Result<bool, Fail> {
+    if change.old_range != between(old, from[0], from[1])?
+        || change.new_range != between(new, to[0], to[1])?
+    {
+        return Ok(false);
     }
-}
-
-// Whether the patch of the way has this gap as its change with this number.
-fn has_gap(
-    original: &LineText,
-    way: &Way,
-    number: usize,
-    from: [usize; 2],
-    to: [usize; 2],
-) -> bool {
-    match way.patch.change(number) {
-        Some(change) => is_gap(change, original, &way.text, from, to),
-        None => false,
-    }
+    Ok(
+        Some(change.old_text) == units_of(old).get(from[0]..from[1])
+            && Some(change.new_text) == units_of(new).get(to[0]..to[1]),
+    )
 }
 
 /// Whether the patch of the way has exactly the gaps between its tagged units.
-pub fn has_gaps(original: &LineText, way: &Way) -> bool {
+pub fn has_gaps(original: &LineText, way: &Way) -> Result<bool, Fail> {
     let mut found = 0usize;
     let mut old_end = 0usize;
     let mut new_end = 0usize;
-    for at in 0..way.tagged.len().saturating_add(1) {
-        let Some(next) = origin_of(original, way.tagged.as_slice(), at) else {
-            continue;
+    for at in 0..=way.tagged.len() {
+        let next = match way.tagged.get(at) {
+            Some(tag) => match tag.from {
+                Some(from) => from,
+                None => continue,
+            },
+            None => original.len(),
         };
         if next > old_end || at > new_end {
-            if !has_gap(original, way, found, [old_end, next], [new_end, at]) {
-                return false;
+            let Some(change) = way.patch.change(found) else {
+                return Ok(false);
+            };
+            if !is_gap(change, original, &way.text, [old_end, next], [new_end, at])? {
+                return Ok(false);
             }
             found = found.saturating_add(1);
         }
         old_end = next.saturating_add(1);
         new_end = at.saturating_add(1);
     }
-    found == way.patch.count()
+    Ok(found == way.patch.count())
 }

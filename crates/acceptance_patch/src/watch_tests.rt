@@ -1,7 +1,19 @@
 //! Watchers: what is heard, and who is refused.
-use crate::patch_cases::insertion;
+use crate::patch_cases::{range, units};
+use patch::Change;
+use std::alloc::Global;
 use std::test::Fail;
 use watch::{ListWatcher, WatchBack, Watcher, Watchers};
+
+// An insertion of `x` at the start of a row.
+fn insertion(alloc: Global, row: u32) -> Result<Change, Fail> {
+    Ok(Change {
+        old_range: range([row, 0, row, 0])?,
+        new_range: range([row, 0, row, 1])?,
+        old_text: units(alloc, "")?,
+        new_text: units(alloc, "x")?,
+    })
+}
 
 // Whether the watcher was refused as one whose id is taken, and came back with this count.
 fn is_taken(answer: &Result<(), WatchBack>, count: u64) -> bool {
@@ -26,7 +38,7 @@ fn taken_and_unknown(rt: HostRuntime) -> Result<(), Fail> {
     assert!(rt; watchers.detach(7).is_err());
     let first = Box::new(alloc, ListWatcher::new(alloc, 1)?)?;
     assert!(rt; watchers.attach(7, first).is_ok());
-    let change = insertion(alloc, 0).ok_or("no change")?;
+    let change = insertion(alloc, 0)?;
     watchers.tell(&change);
     let second = Box::new(alloc, ListWatcher::new(alloc, 1)?)?;
     assert!(rt; is_taken(&watchers.attach(7, second), 0));
@@ -54,7 +66,7 @@ fn ids_are(watchers: &Watchers, ids: &[u32]) -> bool {
 #[test]
 fn heard_since_attached(rt: HostRuntime) -> Result<(), Fail> {
     let alloc = rt.alloc();
-    let change = insertion(alloc, 0).ok_or("no change")?;
+    let change = insertion(alloc, 0)?;
     let mut before = ListWatcher::new(alloc, 8)?;
     before.changed(&change);
     let mut watchers = Watchers::new();
