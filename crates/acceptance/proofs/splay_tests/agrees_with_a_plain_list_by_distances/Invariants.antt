@@ -1,4 +1,0 @@
-use Rattle.acceptance.proofs.splay_tests.agrees_with_a_plain_list_by_distances.Given as goal
-
-abbrev pub ghosts-agrees : goal.ghosts-agrees
-ghosts-agrees g a = record { name = a.blank.name; parts = a.blank.parts }

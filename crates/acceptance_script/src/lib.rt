@@ -1,0 +1,8 @@
+//! Tests of commands and replies as data, and of scripts and transcripts as documents.
+//! A crate whose tests stand here is proved once, and not a second time with them.
+#![tactic(auto)]
+
+#[cfg(test)]
+mod machine_tests;
+#[cfg(test)]
+mod script_tests;
