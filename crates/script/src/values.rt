@@ -1,6 +1,6 @@
 //! The JSON values of what a document holds: of numbers, texts, points and lists, and of objects member by member.
 ghost use Rattle.std.specs.Prelude.{◌≡◌, map, IfOk};
-ghost use Rattle.serde_json.specs.Data.{Data, boolean, string, no_members, member, put as with_member};
+ghost use Rattle.serde_json.specs.Data.{Data, boolean, string, object, no_members, member, put as with_member};
 ghost use Rattle.serde_json.specs.View.{view, items_of, items_view, members_view};
 ghost use Rattle.script.specs.TranscriptDocument.{whole, point_value, span_value, hits_value, list_value};
 
@@ -45,7 +45,8 @@ pub(crate) fn with<T: HasValue>(
     key: &str,
     of: &T,
 ) -> Result<Map<String, Value>, AllocError>
-    ensures { IfOk result (λ ms. members_view ms.entries ≡ with_member key.now (T.HasValue.json of.now) (members_view members.entries)) }
+    ensures { IfOk result (λ ms. members_view ms.entries
+        ≡ with_member key.now (T.HasValue.json of.now) (members_view members.entries)) }
 {
     let value = of.value(alloc)?;
     put(&mut members, alloc, key, value)?;
@@ -53,14 +54,27 @@ pub(crate) fn with<T: HasValue>(
 }
 
 // An object of one member.
-pub(crate) fn one<T: HasValue>(
+pub(crate) fn one<T: HasValue>(alloc: Global, key: &str, of: &T) -> Result<Value, AllocError>
+    ensures { IfOk result (λ v. view v ≡ object (member key.now (T.HasValue.json of.now) no_members)) }
+{
+    let members = with(Map::new(alloc), alloc, key, of)?;
+    Ok(Value::Object(members))
+}
+
+// An object of two members.
+pub(crate) fn two<A: HasValue, B: HasValue>(
     alloc: Global,
     key: &str,
-    of: &T,
-) -> Result<Map<String, Value>, AllocError>
-    ensures { IfOk result (λ ms. members_view ms.entries ≡ member key.now (T.HasValue.json of.now) no_members) }
+    a: &A,
+    other: &str,
+    b: &B,
+) -> Result<Value, AllocError>
+    ensures { IfOk result (λ v. view v ≡ object (with_member other.now (B.HasValue.json b.now)
+        (member key.now (A.HasValue.json a.now) no_members))) }
 {
-    with(Map::new(alloc), alloc, key, of)
+    let members = with(Map::new(alloc), alloc, key, a)?;
+    let members = with(members, alloc, other, b)?;
+    Ok(Value::Object(members))
 }
 
 impl HasValue for u32 {

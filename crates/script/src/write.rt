@@ -4,19 +4,17 @@ ghost use Rattle.serde_json.specs.View.{view};
 ghost use Rattle.script.specs.ScriptDocument.{document};
 ghost use Rattle.script.specs.TranscriptDocument.{end_value, transcript_value, transcript_text};
 
-use crate::values::{HasValue, one, with};
+use crate::values::{HasValue, two, with};
 use machine::{Transcript, TranscriptEnd};
 use points::NoMemory;
-use serde_json::Value;
+use serde_json::{Map, Value};
 use std::alloc::{AllocError, Global};
 
 impl HasValue for TranscriptEnd {
     ghost json = { end_value };
 
     fn value(&self, alloc: Global) -> Result<Value, AllocError> {
-        let members = one(alloc, "count", &self.count)?;
-        let members = with(members, alloc, "text", &self.text)?;
-        Ok(Value::Object(members))
+        two(alloc, "count", &self.count, "text", &self.text)
     }
 }
 
@@ -24,7 +22,7 @@ impl HasValue for TranscriptEnd {
 fn transcript_value(alloc: Global, transcript: &Transcript) -> Result<Value, AllocError>
     ensures { IfOk result (λ v. view v ≡ transcript_value transcript.now) }
 {
-    let members = one(alloc, "end", &transcript.end)?;
+    let members = with(Map::new(alloc), alloc, "end", &transcript.end)?;
     let members = with(members, alloc, "sessions", &transcript.sessions)?;
     let members = with(members, alloc, "version", &transcript.version)?;
     Ok(Value::Object(members))
