@@ -1,8 +1,8 @@
 //! From the bytes of a script to those of its transcript: they are read, the commands of the one session are answered
 //! in turn, and the replies are written.
-ghost use Rattle.std.specs.Prelude.{◌≡◌, ◌+◌, ◌<◌, length, true, Some, None, IfOk, IfErr, OnOk, OnErr};
+ghost use Rattle.std.specs.Prelude.{◌≡◌, ◌+◌, ◌<◌, [], ◌∷◌, length, true, Some, None, IfOk, IfErr, OnOk, OnErr};
 ghost use Rattle.std.specs.List.{AllByRecursion};
-ghost use Rattle.points.specs.Text.{utf16_of};
+ghost use Rattle.points.specs.Text.{utf16_of, text_of};
 ghost use Rattle.machine.specs.Answers.{opening_text};
 ghost use Rattle.machine.specs.Bare.{is_plain, bare_after, bare_replies};
 ghost use Rattle.script.specs.Limits.{IsWithinLimits};
@@ -41,16 +41,33 @@ fn perform(alloc: Global, script: &Script) -> Result<Transcript, NoMemory>
     let mut document = Document::open(alloc, opening_text(script))?;
     let session = &script.sessions.as_slice()[0];
     let replies = answer_all(alloc, &mut document, session.as_slice())?;
-    let mut sessions = Vec::new(alloc);
-    sessions.push(Sequence::new(replies))?;
+    let end = end_of(alloc, document)?;
+    let sessions = one_session(alloc, replies)?;
     Ok(Transcript {
-        end: TranscriptEnd {
-            count: document.count(),
-            text: document.to_text(alloc)?,
-        },
-        sessions: Sequence::new(sessions),
+        end,
+        sessions,
         version: script.version,
     })
+}
+
+/// The end of a run that leaves this document.
+fn end_of(alloc: Global, document: Document) -> Result<TranscriptEnd, NoMemory>
+    ensures count { IfOk result (λ end. end.count ≡ document.count) }
+    ensures text { IfOk result (λ end. end.text ≡ text_of document.text) }
+{
+    Ok(TranscriptEnd {
+        count: document.count(),
+        text: document.to_text(alloc)?,
+    })
+}
+
+/// The replies of one session alone.
+fn one_session(alloc: Global, replies: Vec<Reply>) -> Result<Sequence<Sequence<Reply>>, NoMemory>
+    ensures { IfOk result (λ sessions. sessions ≡ replies.items ∷ []) }
+{
+    let mut sessions = Vec::new(alloc);
+    sessions.push(Sequence::new(replies))?;
+    Ok(Sequence::new(sessions))
 }
 
 /// The text that a script opens with.

@@ -10,6 +10,7 @@ pub mod RuleLemmas
 pub mod RuleRows
 pub mod CommandPlaces
 pub mod DocumentPlaces
+pub mod CommandLoop
 pub mod Documents
 pub mod Apart
 pub mod Whole

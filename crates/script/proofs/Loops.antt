@@ -1,5 +1,5 @@
--- Reading lists item by item, and counting the units of a text character by character.
-use Rattle.std.proofs.Common.{◌≡◌, ℕ, ◌+◌, ◌≤◌, List, [], ◌∷◌, ◌++◌, length, Option, option_map, ap, ◌∙◌, arith, length-append}
+-- Counting the units of a text character by character.
+use Rattle.std.proofs.Common.{◌≡◌, ℕ, ◌+◌, ◌≤◌, List, [], ◌∷◌, ◌++◌, length, ap, ◌∙◌, arith, length-append}
 use Rattle.std.specs.Char.Escape.{encode_utf16}
 use Rattle.std.specs.Str.{IsUtf8, chars}
 use lib.Utf8.{encode, encodes}
@@ -7,15 +7,6 @@ use Rattle.std.proofs.lemmas.Bool.Decides.{nat_tests}
 use Rattle.std.proofs.lemmas.List.Concat.{flat_map-cons}
 use Rattle.std.proofs.lemmas.Str.{chars-nil, chars_past_char, encodes-chars, length-encode}
 use Rattle.points.specs.Text.{utf16, utf16_of}
-use Rattle.machine.specs.declared.command.Command.{Command}
-
--- ---- commands
-
--- the commands that were read before, and those that are still read
-abbrev pub with_front : List Command → Option (List Command) → Option (List Command)
-with_front front read = option_map (λ cs. front ++ cs) read
-
--- ---- units
 
 length-encode_utf16 : (c : ℕ) → length (encode_utf16 c) ≤ length (encode c)
 length-encode_utf16 c = rw length-encode (grind (arith, nat_tests))

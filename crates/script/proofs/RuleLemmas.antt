@@ -6,7 +6,7 @@ use Rattle.std.specs.Option.{option_or}
 use Rattle.std.proofs.lemmas.List.Sums.{sum_by-cons}
 use Rattle.std.proofs.lemmas.Option.{none-some}
 use Rattle.std.proofs.lemmas.Bool.{leb-true, le-ltb, ltb-false, le-leb, eqb-true, and_parts, and_from, not-false, false≢true}
-use Rattle.points.specs.declared.limits.TheConstants.{MAX_UNITS, MAX_WATCHERS}
+use Rattle.points.specs.declared.limits.TheConstants.{MAX_UNITS}
 use Rattle.points.specs.declared.range.Range.{Range}
 use Rattle.points.specs.Text.{utf16_of}
 use Rattle.machine.specs.Answers.{opening_text}
@@ -16,7 +16,7 @@ use Rattle.machine.specs.declared.command.Command.TheVariants as command
 use Rattle.machine.specs.declared.command.Opening.{Opening}
 use Rattle.machine.specs.declared.command.Opening.TheVariants as opening
 use Rattle.machine.specs.declared.command.Script.{Script}
-use Rattle.script.specs.declared.limits.TheConstants.{MAX_SESSIONS, MAX_COMMANDS, MAX_READINGS, MAX_SAVES, MAX_FINDS, MAX_SHOWN}
+use Rattle.script.specs.declared.limits.TheConstants.{MAX_SESSIONS, MAX_COMMANDS, MAX_READINGS, MAX_SAVES, MAX_FINDS, MAX_SHOWN, MAX_WATCHES}
 use Rattle.script.specs.declared.refusal.ScriptRule.{ScriptRule}
 use Rattle.script.specs.declared.refusal.ScriptRule.TheVariants.{BadShape, TooMany, UnknownSnapshot, SnapshotTaken, BadNumber}
 use Rattle.script.specs.Limits.{is_opening_within, is_reading, is_bounded, is_within}
@@ -36,15 +36,15 @@ use Rattle.serde_json.specs.View.{items_of}
 -- ---- within the limits there is no place
 
 -- few enough of everything
-pub few : (commands readings saves finds watches : ℕ) → commands ≤ MAX_COMMANDS → readings ≤ MAX_READINGS → saves ≤ MAX_SAVES → finds ≤ MAX_FINDS → watches ≤ MAX_WATCHERS
-    → (nat_lt MAX_COMMANDS commands || nat_lt MAX_READINGS readings || nat_lt MAX_SAVES saves || nat_lt MAX_FINDS finds || nat_lt MAX_WATCHERS watches || false) ≡ false
-few commands readings saves finds watches a b c d e = rw (le-ltb MAX_COMMANDS commands a, le-ltb MAX_READINGS readings b, le-ltb MAX_SAVES saves c, le-ltb MAX_FINDS finds d, le-ltb MAX_WATCHERS watches e) refl
+pub few : (commands readings saves finds watches : ℕ) → commands ≤ MAX_COMMANDS → readings ≤ MAX_READINGS → saves ≤ MAX_SAVES → finds ≤ MAX_FINDS → watches ≤ MAX_WATCHES
+    → (nat_lt MAX_COMMANDS commands || nat_lt MAX_READINGS readings || nat_lt MAX_SAVES saves || nat_lt MAX_FINDS finds || nat_lt MAX_WATCHES watches || false) ≡ false
+few commands readings saves finds watches a b c d e = rw (le-ltb MAX_COMMANDS commands a, le-ltb MAX_READINGS readings b, le-ltb MAX_SAVES saves c, le-ltb MAX_FINDS finds d, le-ltb MAX_WATCHES watches e) refl
 
 -- nothing is counted that no built command has
 record IsPlain (b : Before) : Type 0 where
   names : length b.names ≤ MAX_SAVES
   finds : b.marks ≤ MAX_FINDS
-  watches : b.watches ≤ MAX_WATCHERS
+  watches : b.watches ≤ MAX_WATCHES
 
 -- how many readings a command is
 abbrev readings_of : Command → ℕ
@@ -153,9 +153,9 @@ record IsPassed (b : Before) (c : Command) : Type 0 where
   readings : b.reading + readings_of c ≤ MAX_READINGS
 
 room_back : (b : Before) (commands readings saves finds watches : ℕ)
-    → (nat_lt MAX_COMMANDS commands || nat_lt MAX_READINGS readings || nat_lt MAX_SAVES saves || nat_lt MAX_FINDS finds || nat_lt MAX_WATCHERS watches || false) ≡ false → (commands ≤ MAX_COMMANDS) × (readings ≤ MAX_READINGS)
+    → (nat_lt MAX_COMMANDS commands || nat_lt MAX_READINGS readings || nat_lt MAX_SAVES saves || nat_lt MAX_FINDS finds || nat_lt MAX_WATCHES watches || false) ≡ false → (commands ≤ MAX_COMMANDS) × (readings ≤ MAX_READINGS)
 room_back b commands readings saves finds watches h =
-    let parts = few_back (nat_lt MAX_COMMANDS commands) (nat_lt MAX_READINGS readings) (nat_lt MAX_SAVES saves) (nat_lt MAX_FINDS finds) (nat_lt MAX_WATCHERS watches) false h in
+    let parts = few_back (nat_lt MAX_COMMANDS commands) (nat_lt MAX_READINGS readings) (nat_lt MAX_SAVES saves) (nat_lt MAX_FINDS finds) (nat_lt MAX_WATCHES watches) false h in
     (ltb-false _ _ parts.0, ltb-false _ _ parts.1)
 
 step_back : (all : Bool) (b : Before) (c : Command) → is_plain c ≡ true → first_broken (command_tests all b (command_value c)) ≡ None → IsPassed b c

@@ -4,8 +4,8 @@ use Rattle.std.specs.List.{list_any, list_all}
 use Rattle.std.specs.Option.{option_or}
 use Rattle.std.specs.Str.{bytes_eq}
 use Rattle.points.specs.Text.{utf16_of}
-use Rattle.points.specs.declared.limits.TheConstants.{MAX_UNITS, MAX_HANDS, MAX_WATCHERS}
-use Rattle.script.specs.declared.limits.TheConstants.{MAX_SESSIONS, MAX_COMMANDS, MAX_READINGS, MAX_SAVES, MAX_FINDS, MAX_NAME, MAX_ID}
+use Rattle.points.specs.declared.limits.TheConstants.{MAX_UNITS, MAX_HANDS}
+use Rattle.script.specs.declared.limits.TheConstants.{MAX_SESSIONS, MAX_COMMANDS, MAX_READINGS, MAX_SAVES, MAX_FINDS, MAX_WATCHES, MAX_NAME, MAX_ID}
 use Rattle.script.specs.declared.refusal.ScriptRule.{ScriptRule}
 use Rattle.script.specs.declared.refusal.ScriptRule.TheVariants.{BadShape, TooMany, UnknownSnapshot, SnapshotTaken, BadNumber, BadEncoding, EmptyNeedle, BadName}
 use Rattle.script.specs.Parts.{member_count, items_in, count_items, string_in, whole_of, whole_in, is_word, range_of}
@@ -182,7 +182,7 @@ next_session b = record b { peaks = b.peaks + b.peak; peak = 0; live = [] }
 abbrev pub is_too_many : Before → Data → Bool
 is_too_many b d =
     nat_lt MAX_COMMANDS (next b d).commands || nat_lt MAX_READINGS (next b d).reading || nat_lt MAX_SAVES (length (next b d).names)
-    || nat_lt MAX_FINDS (next b d).marks || nat_lt MAX_WATCHERS (next b d).watches || (is_do (codes "take") d && nat_lt MAX_HANDS (b.peaks + length b.live + 1))
+    || nat_lt MAX_FINDS (next b d).marks || nat_lt MAX_WATCHES (next b d).watches || (is_do (codes "take") d && nat_lt MAX_HANDS (b.peaks + length b.live + 1))
 
 -- one of these names is there already, or stands twice among them
 abbrev pub is_again : List (List ℕ) → List (List ℕ) → Bool

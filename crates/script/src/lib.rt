@@ -19,7 +19,7 @@ mod write;
 
 pub use limits::{
     MAX_COMMANDS, MAX_FINDS, MAX_HITS, MAX_ID, MAX_NAME, MAX_READINGS, MAX_SAVES, MAX_SESSIONS,
-    MAX_SHOWN,
+    MAX_SHOWN, MAX_WATCHES,
 };
 pub use machine::{
     BatchEdit, CallRefusal, Command, Encoding, HitNumbers, How, Opening, Read, ReadAnswer, Reply,

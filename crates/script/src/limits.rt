@@ -15,6 +15,9 @@ pub const MAX_SAVES: usize = 64;
 /// The most commands that ask for the marks at a range.
 pub const MAX_FINDS: usize = 256;
 
+/// The most commands that begin to watch.
+pub const MAX_WATCHES: usize = 64;
+
 /// The most bytes of the name of a file.
 pub const MAX_NAME: usize = 64;
 

@@ -2,13 +2,14 @@
 ghost use Rattle.std.specs.Prelude.{◌≡◌, IfOk};
 ghost use Rattle.machine.specs.declared.reads.ReadAnswer.TheVariants as answer;
 ghost use Rattle.machine.specs.declared.reply.Reply.TheVariants as reply;
+ghost use Rattle.serde_json.specs.Data.{string};
 ghost use Rattle.serde_json.specs.View.{view};
-ghost use Rattle.script.specs.TranscriptDocument.{refusal_word, order_word, part_value, answer_value, reply_value, replies_value};
+ghost use Rattle.script.specs.TranscriptDocument.{refusal_word, order_word, part_value, answer_value, reply_value};
 
-use crate::values::{HasValue, list_value};
-use machine::{CallRefusal, HitNumbers, ReadAnswer, Reply, ReplyPart, Sequence, Span};
+use crate::values::{HasValue, one, two, with};
+use machine::{CallRefusal, HitNumbers, ReadAnswer, Reply, ReplyPart, Sequence, Span, Text};
 use points::{MarkOrder, Point};
-use serde_json::{Value, json};
+use serde_json::{Map, Value};
 use std::alloc::{AllocError, Global};
 
 // The word of a refusal.
@@ -27,6 +28,14 @@ fn refusal_word(refusal: CallRefusal) -> &'static str
     }
 }
 
+impl HasValue for CallRefusal {
+    ghost json = { λ refusal. string (refusal_word refusal) };
+
+    fn value(&self, alloc: Global) -> Result<Value, AllocError> {
+        Value::try_from_str(alloc, refusal_word(*self))
+    }
+}
+
 // The word of how one mark stands to another.
 fn order_word(order: MarkOrder) -> &'static str
     ensures { result.now ≡ order_word order }
@@ -38,59 +47,37 @@ fn order_word(order: MarkOrder) -> &'static str
     }
 }
 
+impl HasValue for MarkOrder {
+    ghost json = { λ order. string (order_word order) };
+
+    fn value(&self, alloc: Global) -> Result<Value, AllocError> {
+        Value::try_from_str(alloc, order_word(*self))
+    }
+}
+
 impl HasValue for ReplyPart {
     ghost json = { part_value };
 
     fn value(&self, alloc: Global) -> Result<Value, AllocError> {
-        let end = self.end.value(alloc)?;
-        let from = self.from.value(alloc)?;
-        let hits = self.hits.value(alloc)?;
-        let to = self.to.value(alloc)?;
-        json!(in alloc; {"end": end, "from": from, "hits": hits, "to": to})
+        let members = with(Map::new(alloc), alloc, "end", &self.end)?;
+        let members = with(members, alloc, "from", &self.from)?;
+        let members = with(members, alloc, "hits", &self.hits)?;
+        let members = with(members, alloc, "to", &self.to)?;
+        Ok(Value::Object(members))
     }
 }
 
 // ---- the answers to reads
-
-// The extent of a text, and its units.
-fn size_value(alloc: Global, extent: &Point, units: u64) -> Result<Value, AllocError>
-    ensures { IfOk result (λ v. view v ≡ answer_value (answer.Size extent.now units)) }
-{
-    let extent = extent.value(alloc)?;
-    json!(in alloc; {"extent": extent, "units": units})
-}
-
-// A text shown, and the units of the whole range.
-fn shown_value(alloc: Global, text: &str, units: u64) -> Result<Value, AllocError>
-    ensures { IfOk result (λ v. view v ≡ answer_value (answer.Text text.now units)) }
-{
-    json!(in alloc; {"text": text, "units": units})
-}
-
-// How many hits there are, and the first of them.
-fn found_value(alloc: Global, count: u64, hits: &[Span]) -> Result<Value, AllocError>
-    ensures { IfOk result (λ v. view v ≡ answer_value (answer.Found count hits.now)) }
-{
-    let hits = list_value(alloc, hits)?;
-    json!(in alloc; {"count": count, "hits": hits})
-}
-
-// How many bytes were written.
-fn saved_value(alloc: Global, bytes: u64) -> Result<Value, AllocError>
-    ensures { IfOk result (λ v. view v ≡ answer_value (answer.Saved bytes)) }
-{
-    json!(in alloc; {"bytes": bytes})
-}
 
 impl HasValue for ReadAnswer {
     ghost json = { answer_value };
 
     fn value(&self, alloc: Global) -> Result<Value, AllocError> {
         match self {
-            ReadAnswer::Size { extent, units } => size_value(alloc, extent, *units),
-            ReadAnswer::Text { text, units } => shown_value(alloc, text.as_str(), *units),
-            ReadAnswer::Found { count, hits } => found_value(alloc, *count, hits.as_slice()),
-            ReadAnswer::Saved { bytes } => saved_value(alloc, *bytes),
+            ReadAnswer::Size { extent, units } => two(alloc, "extent", extent, "units", units),
+            ReadAnswer::Text { text, units } => two(alloc, "text", text, "units", units),
+            ReadAnswer::Found { count, hits } => two(alloc, "count", count, "hits", hits),
+            ReadAnswer::Saved { bytes } => one(alloc, "bytes", bytes),
         }
     }
 }
@@ -108,85 +95,32 @@ fn edited_value(
 ) -> Result<Value, AllocError>
     ensures { IfOk result (λ v. view v ≡ reply_value (reply.Edited at end.now from.now hits.now to.now)) }
 {
-    let end = end.value(alloc)?;
-    let from = from.value(alloc)?;
-    let hits = hits.value(alloc)?;
-    let to = to.value(alloc)?;
-    json!(in alloc; {"at": at, "end": end, "from": from, "hits": hits, "to": to})
-}
-
-// Several edits under one number.
-fn batched_value(alloc: Global, at: u64, edits: &[ReplyPart]) -> Result<Value, AllocError>
-    ensures { IfOk result (λ v. view v ≡ reply_value (reply.Batched at edits.now)) }
-{
-    let edits = list_value(alloc, edits)?;
-    json!(in alloc; {"at": at, "edits": edits})
+    let members = with(Map::new(alloc), alloc, "at", &at)?;
+    let members = with(members, alloc, "end", end)?;
+    let members = with(members, alloc, "from", from)?;
+    let members = with(members, alloc, "hits", hits)?;
+    let members = with(members, alloc, "to", to)?;
+    Ok(Value::Object(members))
 }
 
 // A text shown by a command.
-fn text_value(alloc: Global, at: u64, text: &str, units: u64) -> Result<Value, AllocError>
+fn text_value(alloc: Global, at: u64, text: &Text, units: u64) -> Result<Value, AllocError>
     ensures { IfOk result (λ v. view v ≡ reply_value (reply.Text at text.now units)) }
 {
-    json!(in alloc; {"at": at, "text": text, "units": units})
-}
-
-// A call that tells no more than its number.
-fn numbered_value(alloc: Global, at: u64) -> Result<Value, AllocError>
-    ensures { IfOk result (λ v. view v ≡ reply_value (reply.Numbered at)) }
-{
-    json!(in alloc; {"at": at})
+    let members = with(Map::new(alloc), alloc, "at", &at)?;
+    let members = with(members, alloc, "text", text)?;
+    let members = with(members, alloc, "units", &units)?;
+    Ok(Value::Object(members))
 }
 
 // Where a mark is.
 fn range_value(alloc: Global, at: u64, exclusive: bool, range: &Span) -> Result<Value, AllocError>
     ensures { IfOk result (λ v. view v ≡ reply_value (reply.Range at exclusive range.now)) }
 {
-    let range = range.value(alloc)?;
-    json!(in alloc; {"at": at, "exclusive": exclusive, "range": range})
-}
-
-// The ids of marks.
-fn marks_value(alloc: Global, at: u64, ids: &[u32]) -> Result<Value, AllocError>
-    ensures { IfOk result (λ v. view v ≡ reply_value (reply.Marks at ids.now)) }
-{
-    let ids = list_value(alloc, ids)?;
-    json!(in alloc; {"at": at, "ids": ids})
-}
-
-// How two marks stand to each other.
-fn order_value(alloc: Global, at: u64, order: MarkOrder) -> Result<Value, AllocError>
-    ensures { IfOk result (λ v. view v ≡ reply_value (reply.Order at order)) }
-{
-    json!(in alloc; {"at": at, "order": order_word(order)})
-}
-
-// How many changes a watcher was told.
-fn heard_value(alloc: Global, at: u64, heard: u64) -> Result<Value, AllocError>
-    ensures { IfOk result (λ v. view v ≡ reply_value (reply.Heard at heard)) }
-{
-    json!(in alloc; {"at": at, "heard": heard})
-}
-
-// A refused call.
-fn refused_value(alloc: Global, at: u64, no: CallRefusal) -> Result<Value, AllocError>
-    ensures { IfOk result (λ v. view v ≡ reply_value (reply.Refused at no)) }
-{
-    json!(in alloc; {"at": at, "no": refusal_word(no)})
-}
-
-// The version that a snapshot was taken of.
-fn taken_value(alloc: Global, version: u64) -> Result<Value, AllocError>
-    ensures { IfOk result (λ v. view v ≡ reply_value (reply.Taken version)) }
-{
-    json!(in alloc; {"version": version})
-}
-
-// The answers to the reads of a snapshot.
-fn answered_value(alloc: Global, answers: &[ReadAnswer]) -> Result<Value, AllocError>
-    ensures { IfOk result (λ v. view v ≡ reply_value (reply.Answered answers.now)) }
-{
-    let answers = list_value(alloc, answers)?;
-    json!(in alloc; {"answers": answers})
+    let members = with(Map::new(alloc), alloc, "at", &at)?;
+    let members = with(members, alloc, "exclusive", &exclusive)?;
+    let members = with(members, alloc, "range", range)?;
+    Ok(Value::Object(members))
 }
 
 impl HasValue for Reply {
@@ -201,29 +135,21 @@ impl HasValue for Reply {
                 hits,
                 to,
             } => edited_value(alloc, *at, end, from, hits, to),
-            Reply::Batched { at, edits } => batched_value(alloc, *at, edits.as_slice()),
-            Reply::Text { at, text, units } => text_value(alloc, *at, text.as_str(), *units),
-            Reply::Numbered { at } => numbered_value(alloc, *at),
+            Reply::Batched { at, edits } => two(alloc, "at", at, "edits", edits),
+            Reply::Text { at, text, units } => text_value(alloc, *at, text, *units),
+            Reply::Numbered { at } => one(alloc, "at", at),
             Reply::Range {
                 at,
                 exclusive,
                 range,
             } => range_value(alloc, *at, *exclusive, range),
-            Reply::Marks { at, ids } => marks_value(alloc, *at, ids.as_slice()),
-            Reply::Order { at, order } => order_value(alloc, *at, *order),
-            Reply::Heard { at, heard } => heard_value(alloc, *at, *heard),
-            Reply::Refused { at, no } => refused_value(alloc, *at, *no),
-            Reply::Taken { version } => taken_value(alloc, *version),
-            Reply::Answered { answers } => answered_value(alloc, answers.as_slice()),
+            Reply::Marks { at, ids } => two(alloc, "at", at, "ids", ids),
+            Reply::Order { at, order } => two(alloc, "at", at, "order", order),
+            Reply::Heard { at, heard } => two(alloc, "at", at, "heard", heard),
+            Reply::Refused { at, no } => two(alloc, "at", at, "no", no),
+            Reply::Taken { version } => one(alloc, "version", version),
+            Reply::Answered { answers } => one(alloc, "answers", answers),
             Reply::Nothing => Ok(Value::Null),
         }
-    }
-}
-
-impl HasValue for Sequence<Reply> {
-    ghost json = { replies_value };
-
-    fn value(&self, alloc: Global) -> Result<Value, AllocError> {
-        list_value(alloc, self.as_slice())
     }
 }

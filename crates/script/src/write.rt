@@ -4,26 +4,28 @@ ghost use Rattle.serde_json.specs.View.{view};
 ghost use Rattle.script.specs.ScriptDocument.{document};
 ghost use Rattle.script.specs.TranscriptDocument.{end_value, transcript_value, transcript_text};
 
-use crate::values::list_value;
+use crate::values::{HasValue, two, with};
 use machine::{Transcript, TranscriptEnd};
 use points::NoMemory;
-use serde_json::{Value, json};
+use serde_json::{Map, Value};
 use std::alloc::{AllocError, Global};
 
-// The end of a run.
-fn end_value(alloc: Global, end: &TranscriptEnd) -> Result<Value, AllocError>
-    ensures { IfOk result (λ v. view v ≡ end_value end.now) }
-{
-    json!(in alloc; {"count": end.count, "text": end.text.as_str()})
+impl HasValue for TranscriptEnd {
+    ghost json = { end_value };
+
+    fn value(&self, alloc: Global) -> Result<Value, AllocError> {
+        two(alloc, "count", &self.count, "text", &self.text)
+    }
 }
 
 // The whole transcript.
 fn transcript_value(alloc: Global, transcript: &Transcript) -> Result<Value, AllocError>
     ensures { IfOk result (λ v. view v ≡ transcript_value transcript.now) }
 {
-    let end = end_value(alloc, &transcript.end)?;
-    let sessions = list_value(alloc, transcript.sessions.as_slice())?;
-    json!(in alloc; {"end": end, "sessions": sessions, "version": transcript.version})
+    let members = with(Map::new(alloc), alloc, "end", &transcript.end)?;
+    let members = with(members, alloc, "sessions", &transcript.sessions)?;
+    let members = with(members, alloc, "version", &transcript.version)?;
+    Ok(Value::Object(members))
 }
 
 /// The text of a transcript: its compact JSON text, and one line feed. It reads back as the transcript's value.

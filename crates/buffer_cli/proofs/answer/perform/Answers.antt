@@ -22,8 +22,8 @@ returns c =
       opening = opening;
       opens = c.opening_text.ensures;
       lawful = lawful_from_parts c.args.script.now opening [] commands _ _ _ _ one plain
-          (c.count.ensures ∙ ap (λ (s : State). s.count) reached)
-          (c.in_ok-to_text.ensures ∙ ap (λ (s : State). text_of s.text) reached)
-          (rw (c.new-2.ensures, c.in_ok-push.ensures.items, c.new-sessions.ensures.items, c.new.ensures, c.in_ok-replies.ensures.replies, c.in_ok-document.ensures, c.requires.version) refl)
+          (c.in_ok-end.ensures.count ∙ ap (λ (s : State). s.count) reached)
+          (c.in_ok-end.ensures.text ∙ ap (λ (s : State). text_of s.text) reached)
+          (rw (c.in_ok-sessions.ensures, c.in_ok-replies.ensures.replies, c.in_ok-document.ensures, c.requires.version) refl)
           refl;
     }

@@ -1,5 +1,4 @@
-use Rattle.std.proofs.Common.{refl, sym, ap, ◌∙◌}
-use Rattle.points.specs.Text.{text_of}
+use Rattle.std.proofs.Common.{refl, ap, ◌∙◌}
 use Rattle.machine.specs.Machine.{look, shown}
 use Rattle.machine.proofs.Bare.{look_shows}
 use Rattle.buffer_cli.proofs.RunLemmas.{answers_as}
