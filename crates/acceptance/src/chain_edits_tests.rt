@@ -46,11 +46,11 @@ fn sprinkled(alloc: Global, mut chain: Chain, first: u32, end: u32) -> Result<Ch
 // Whether the layers have these changes and units.
 fn has_sizes(alloc: Global, chain: &Chain, expected: &[(u32, u64)]) -> Result<bool, Fail> {
     let sizes = chain.sizes(alloc)?;
-    Ok(sizes.len() == expected.len()
-        && sizes
-            .iter()
-            .zip(expected)
-            .all(|(size, (changes, units))| size.changes == *changes && size.units == *units))
+    Ok(
+        sizes.len() == expected.len()
+            && sizes.iter().zip(expected).all(|(size, (changes, units))| size.changes == *changes
+                && size.units == *units),
+    )
 }
 
 fn has_units(alloc: Global, chain: &Chain, expected: &[u16]) -> Result<bool, Fail> {
