@@ -9,13 +9,17 @@
 #![tactic(auto)]
 
 mod chain;
+mod clip;
 mod edit;
 mod held;
 pub mod laws;
+mod line;
 mod lookup;
 mod measure;
 mod overlay;
 mod pieces;
+mod ranges;
+mod rows;
 mod size;
 mod spot;
 mod stand;
