@@ -44,7 +44,7 @@ line_last t r last = ap (λ (xs : List ℕ). row_start t r + length xs) whole
     ∙ (ap (λ (k : ℕ). row_start t k + length (row_of t k)) last ∙ row_end_last t)
   where
     whole : line_of t r ≡ row_of t r
-    whole = ap (λ (b : Bool). cond (b && ends_with_cr (row_of t r)) (take (length (row_of t r) - 1) (row_of t r)) (row_of t r)) (le-ltb (feeds t) r (omega (arith, last)))
+    whole = ap (λ (b : Bool). cond (b && ends_with_cr (row_of t r)) (take (length (row_of t r) - 1) (row_of t r)) (row_of t r)) (le-ltb r (feeds t) (omega (arith, last)))
 
 pub line_ends_text : (t : List ℕ) (end : Spot) (r : ℕ) → end ≡ end_of t → r ≡ end.point.row → end.offset ≡ row_start t r + length (line_of t r)
 line_ends_text t end r is last = ap (λ (x : Spot). x.offset) is ∙ sym (line_last t r (last ∙ ap (λ (x : Spot). x.point.row) is))
