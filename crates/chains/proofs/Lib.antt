@@ -11,3 +11,6 @@ pub mod SizeLemmas
 pub mod SpotLemmas
 pub mod WalkLemmas
 pub mod LineLemmas
+pub mod ChangeLemmas
+pub mod StackLemmas
+pub mod FlattenLemmas

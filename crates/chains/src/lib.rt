@@ -9,8 +9,10 @@
 #![tactic(auto)]
 
 mod chain;
+mod change;
 mod clip;
 mod edit;
+mod flatten;
 mod held;
 pub mod laws;
 mod line;
@@ -20,6 +22,7 @@ mod overlay;
 mod pieces;
 mod ranges;
 mod rows;
+mod shape;
 mod size;
 mod spot;
 mod stand;
