@@ -95,8 +95,28 @@ fn is_appended(
 fn clips_where_layers_cut_endings_and_pairs(rt: HostRuntime) -> Result<(), Fail> {
     let chain = cut_apart(rt.alloc())?;
     assert!(rt; chain.depth() == 4 && chain.extent() == at(1, 4));
-    assert!(rt; clips_to(&chain, &[(at(0, 1), at(0, 1)), (at(0, 2), at(0, 2)), (at(0, 3), at(0, 2)), (at(0, 9), at(0, 2))]));
-    assert!(rt; clips_to(&chain, &[(at(1, 1), at(1, 1)), (at(1, 2), at(1, 1)), (at(1, 3), at(1, 3)), (at(1, 9), at(1, 4))]));
+    assert!(rt;
+        clips_to(
+            &chain,
+            &[
+                (at(0, 1), at(0, 1)),
+                (at(0, 2), at(0, 2)),
+                (at(0, 3), at(0, 2)),
+                (at(0, 9), at(0, 2))
+            ]
+        )
+    );
+    assert!(rt;
+        clips_to(
+            &chain,
+            &[
+                (at(1, 1), at(1, 1)),
+                (at(1, 2), at(1, 1)),
+                (at(1, 3), at(1, 3)),
+                (at(1, 9), at(1, 4))
+            ]
+        )
+    );
     assert!(rt; clips_to(&chain, &[(at(2, 0), at(1, 4)), (at(9, 9), at(1, 4))]));
     Ok(())
 }
@@ -126,8 +146,23 @@ fn lends_what_stands_between_clipped_points(rt: HostRuntime) -> Result<(), Fail>
     assert!(rt; has_span(&chain, at(0, 3), at(1, 2), from, to));
     assert!(rt; has_span(&chain, at(1, 1), at(1, 2), to, to));
     assert!(rt; is_lent(&chain, at(0, 3), at(1, 2), &[&[13], &[10, 99]]));
-    assert!(rt; is_lent(&chain, at(0, 0), at(9, 9), &[&[97, 98], &[13], &[10, 99], &[0xd83d], &[0xde00], &[100]]));
+    assert!(rt;
+        is_lent(
+            &chain,
+            at(0, 0),
+            at(9, 9),
+            &[&[97, 98], &[13], &[10, 99], &[0xd83d], &[0xde00], &[100]]
+        )
+    );
     assert!(rt; is_lent(&chain, at(1, 1), at(1, 2), &[]));
-    assert!(rt; is_appended(rt.alloc(), &chain, at(1, 2), at(1, 3), &[120, 0xd83d, 0xde00])?);
+    assert!(rt;
+        is_appended(
+            rt.alloc(),
+            &chain,
+            at(1, 2),
+            at(1, 3),
+            &[120, 0xd83d, 0xde00]
+        )?
+    );
     Ok(())
 }
