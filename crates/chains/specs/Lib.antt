@@ -6,4 +6,5 @@ pub mod Weaving
 pub mod Walking
 pub mod Chain
 pub mod LeadsDown
+pub mod Lines
 pub mod Changes

@@ -10,14 +10,18 @@
 
 mod chain;
 mod change;
+mod clip;
 mod edit;
 mod flatten;
 mod held;
 pub mod laws;
+mod line;
 mod lookup;
 mod measure;
 mod overlay;
 mod pieces;
+mod ranges;
+mod rows;
 mod shape;
 mod size;
 mod spot;
