@@ -10,3 +10,4 @@ pub mod ChainLemmas
 pub mod SizeLemmas
 pub mod SpotLemmas
 pub mod WalkLemmas
+pub mod FlattenLemmas

@@ -10,6 +10,7 @@
 
 mod chain;
 mod edit;
+mod flatten;
 mod held;
 pub mod laws;
 mod lookup;
