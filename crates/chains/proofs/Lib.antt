@@ -11,3 +11,4 @@ pub mod SizeLemmas
 pub mod SpotLemmas
 pub mod WalkLemmas
 pub mod FlattenLemmas
+pub mod SquashLemmas

@@ -19,6 +19,7 @@ mod overlay;
 mod pieces;
 mod size;
 mod spot;
+mod squash;
 mod stand;
 mod stretch;
 mod weaver;
