@@ -12,3 +12,5 @@ pub mod SpotLemmas
 pub mod WalkLemmas
 pub mod FlattenLemmas
 pub mod SquashLemmas
+pub mod ChangeLemmas
+pub mod StackLemmas

@@ -9,6 +9,7 @@
 #![tactic(auto)]
 
 mod chain;
+mod change;
 mod edit;
 mod flatten;
 mod held;
@@ -17,6 +18,7 @@ mod lookup;
 mod measure;
 mod overlay;
 mod pieces;
+mod shape;
 mod size;
 mod spot;
 mod squash;
