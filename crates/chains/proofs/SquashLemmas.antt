@@ -14,7 +14,7 @@ use Rattle.chains.specs.declared.spot.Spot.{Spot}
 use Rattle.chains.specs.declared.overlay.Overlay.{Overlay}
 use Rattle.chains.specs.declared.weaver.Weaver.{Weaver}
 use Rattle.chains.specs.declared.size.LayerSize.{LayerSize}
-use Rattle.chains.specs.Layered.{Layered, retagged, tags_since, size_of, is_within, on_base, whole_text, squashed}
+use Rattle.chains.specs.Layered.{retagged, tags_since, size_of, is_within}
 use Rattle.chains.specs.Overlay.{AreLaid, IsLaid, end_of, puts_of, tags_of, tags_above, text_of_all}
 use Rattle.chains.specs.Spots.{spot_in}
 use Rattle.chains.specs.Stand.{StandsAt, tags_at}
@@ -220,14 +220,6 @@ module _ (base us : List ℕ) (k : ℕ) (from to : Spot) (stands : StandsAt base
 
 pub end_made : (t : List ℕ) (n : ℕ) (p : Point) → n ≡ length t → p ≡ extent t → spot_with n p ≡ end_of t
 end_made t n p at is = ap (λ (m : ℕ). spot_with m p) at ∙ ap (spot_with (length t)) is
-
--- what a squash is, by its layer or the lack of one
-pub squashed_layer : (v : Layered) (o : Overlay) → IsSquash v.base (tags_since v.base v.above) (Some o) → on_base v.base (tags_of v.base o ∷ []) ≡ squashed v
-squashed_layer v o h = ap (λ (g : Tagged). on_base v.base (g ∷ [])) h.1
-    ∙ sym (ap (λ (b : Bool). cond b (on_base v.base (tags_since v.base v.above ∷ [])) (on_base (whole_text v) [])) h.2)
-
-pub squashed_base : (v : Layered) → IsSquash v.base (tags_since v.base v.above) None → on_base (whole_text v) [] ≡ squashed v
-squashed_base v h = sym (ap (λ (b : Bool). cond b (on_base v.base (tags_since v.base v.above ∷ [])) (on_base (whole_text v) [])) h)
 
 -- a finished layer, by its size
 within_both : (a b : ℕ) → a ≤ 512 → b ≤ 65536 → (nat_le a 512 && nat_le b 65536) ≡ true
