@@ -1,5 +1,5 @@
 -- All layers above the base as one: offsets that rise through the layers, and how much is put in.
-use Rattle.std.proofs.Common.{◌≡◌, ℕ, zero, suc, ◌+◌, ◌-◌, ◌<◌, ◌≤◌, ◌==◌, ◌&&◌, Bool, true, false, cond, List, [], ◌∷◌, ◌++◌, length, take, drop, slice_range, slice_get, option_and_then, nat_le, Option, Some, None, refl, sym, ap, ◌∙◌, subst, arith, append_assoc, length-append, take-append-drop}
+use Rattle.std.proofs.Common.{◌≡◌, ℕ, zero, suc, ◌+◌, ◌-◌, ◌<◌, ◌≤◌, ◌==◌, ◌&&◌, Bool, true, false, cond, List, [], ◌∷◌, ◌++◌, length, take, drop, slice_range, slice_get, option_and_then, nat_le, Option, Some, None, refl, sym, ap, ◌∙◌, subst, arith, length-append, take-append-drop}
 use Rattle.std.specs.List.{sum_by}
 use Rattle.std.proofs.lemmas.List.{drop-drop, drop_all, length-take-le}
 use Rattle.std.proofs.lemmas.List.Sums.{sum_by-append, sum_by-cons}
@@ -8,7 +8,7 @@ use Rattle.points.specs.declared.point.Point.{Point}
 use Rattle.points.specs.Place.{extent, point_at}
 use Rattle.points.specs.declared.limits.TheConstants.{MAX_UNITS}
 use Rattle.patch.specs.Hunk.{Hunk, hunk_size}
-use Rattle.patch.specs.Tagged.{Tagged, tagged_from, untagged, units_of, gap, gaps_from, gaps}
+use Rattle.patch.specs.Tagged.{Tagged, tagged_from, untagged, gap, gaps_from, gaps}
 use Rattle.patch.proofs.Pieces.{Piece, old_of, tag_of}
 use Rattle.chains.specs.declared.spot.Spot.{Spot}
 use Rattle.chains.specs.declared.overlay.Overlay.{Overlay}

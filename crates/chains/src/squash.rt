@@ -3,7 +3,7 @@
 //! The walk goes over the stretches of the newest text. A weaver keeps those that stand in the base, and
 //! puts in the others, whichever layer has them. It gives up before it has put in more units than a squash
 //! may have, so a large text that an edit put in isn't copied for nothing.
-ghost use Rattle.std.specs.Prelude.{◌≡◌, ◌+◌, ◌<◌, ◌≤◌, ◌++◌, [], ◌∷◌, ℕ, IfOk, OnOk, List, Option, length, true, false};
+ghost use Rattle.std.specs.Prelude.{◌≡◌, ◌++◌, [], ◌∷◌, ℕ, IfOk, OnOk, List, true, false};
 ghost use Rattle.patch.specs.Tagged.{Tagged};
 ghost use Rattle.chains.specs.Layered.{on_base, squashed, tags_since, is_within, size_of};
 ghost use Rattle.chains.specs.Overlay.{overlays_of, tags_above, tags_of, end_of, AreLaid, IsLaid};
