@@ -6,6 +6,7 @@ pub mod StandParts
 pub mod StretchLemmas
 pub mod WeaverLemmas
 pub mod EditLemmas
+pub mod SquashLemmas
 pub mod ChainLemmas
 pub mod SizeLemmas
 pub mod SpotLemmas

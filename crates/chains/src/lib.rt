@@ -25,6 +25,7 @@ mod rows;
 mod shape;
 mod size;
 mod spot;
+mod squash;
 mod stand;
 mod stretch;
 mod weaver;
