@@ -23,6 +23,8 @@ mod patch_tests;
 #[cfg(test)]
 mod places_tests;
 #[cfg(test)]
+mod plain_replay_tests;
+#[cfg(test)]
 mod points_tests;
 #[cfg(test)]
 mod script_tests;
