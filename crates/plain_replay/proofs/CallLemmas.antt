@@ -1,10 +1,12 @@
 -- What the plain machine answers to each call, case by case, in the form of a reply.
-use Rattle.std.proofs.Common.{◌≡◌, ℕ, ◌+◌, ◌-◌, ◌<◌, Bool, true, false, List, [], ◌∷◌, ◌++◌, length, take, drop, slice_index_or, Option, Some, None, refl, sym, ap, ◌∙◌, subst, arith}
+use Rattle.std.proofs.Common.{◌≡◌, ℕ, ◌+◌, ◌-◌, ◌<◌, ◌≤◌, Bool, true, false, List, [], ◌∷◌, ◌++◌, length, take, drop, slice_index_or, Option, Some, None, refl, sym, ap, ◌∙◌, subst, arith}
 use Rattle.std.specs.Prelude.{option_map, is_some, nat_le, ◌==◌, not}
 use Rattle.std.specs.List.{filter}
+use Rattle.std.proofs.lemmas.Bool.Decides.{nat_tests}
+use Rattle.points.specs.declared.point.Point.{Point}
 use Rattle.points.specs.declared.range.Range.{Range}
 use Rattle.points.specs.declared.mark.Mark.{Mark}
-use Rattle.points.specs.declared.limits.TheConstants.{MAX_MARKS, MAX_WATCHERS}
+use Rattle.points.specs.declared.limits.TheConstants.{MAX_MARKS, MAX_STEPS, MAX_WATCHERS}
 use Rattle.points.specs.Place.{span, clip}
 use Rattle.points.specs.Marks.{mark_order}
 use Rattle.points.specs.MarkList.{ids_where, mark_with, with_mark, without_mark, with_exclusive}
@@ -12,7 +14,7 @@ use Rattle.machine.specs.declared.command.How.{How}
 use Rattle.machine.specs.declared.reply.Reply.{Reply}
 use Rattle.machine.specs.declared.reply.CallRefusal.{CallRefusal}
 use Rattle.machine.specs.declared.reply.CallRefusal.TheVariants as no
-use Rattle.machine.specs.Machine.{State, Step, Change, Part, Progress, Edit, Watching, Batched, Refused, Shown, Done, Ranged, Found, Compared, Heard, edit, batch, undo, redo, look, add_mark, remove_mark, set_exclusive, mark_range, find_marks, compare_marks, watch, unwatch, step, edited, edited_one, counted, with_step, member, members, undone, redone, undo_step, redo_step, shown, between, tells, with_marks, on_mark, finds, watcher_with, with_watcher, with_watchers, unwatch_step}
+use Rattle.machine.specs.Machine.{State, Step, Change, Part, Progress, Edit, Watching, Answer, Batched, Refused, Shown, Done, Ranged, Found, Compared, Heard, edit, batch, undo, redo, look, add_mark, remove_mark, set_exclusive, mark_range, find_marks, compare_marks, watch, unwatch, step, edited, edited_one, counted, with_step, member, members, undone, redone, undo_step, redo_step, shown, between, tells, with_marks, on_mark, finds, watcher_with, with_watcher, with_watchers, unwatch_step}
 use Rattle.machine.specs.Answers.{reply_of}
 use Rattle.plain_replay.specs.Standing.{whole}
 use Rattle.plain_replay.specs.Replayed.{told, replayed}
@@ -185,3 +187,41 @@ pub unwatched : (s : State) (id n : ℕ) (ws : List Watching) → Some n ≡ opt
     → told s (with_watchers s ws (Heard n)) ≡ replayed s (unwatch id)
 unfolding step
 unwatched s id n ws some is = unwatched_by s id n ws (watcher_with id s.watchers) some is
+
+-- a state and a reply, each by its equation
+abbrev pub pair : State → Reply → State × Reply
+pair s r = (s, r)
+
+pub same_pair : (s t : State) (r q : Reply) → s ≡ t → r ≡ q → pair s r ≡ pair t q
+same_pair s t r q state reply = ap (λ (x : State). pair x r) state ∙ ap (pair t) reply
+
+-- a call that only numbers itself, at the parts that the code has
+pub numbered : (b n s : State) (p f : List Step) (k : ℕ) (a : Answer) → n ≡ counted b → k ≡ b.count + 1 → whole b p f ≡ s → pair (whole n p f) (reply_of 2 k a) ≡ told s (counted s, a)
+numbered b n s p f k a body number seen = ap (λ (m : State). pair (whole m p f) (reply_of 2 k a)) body
+    ∙ ap (λ (i : ℕ). pair (whole (counted b) p f) (reply_of 2 i a)) number ∙ ap (λ (x : State). told x (counted x, a)) seen
+
+pub shown_is : (t u : List ℕ) (i j k l limit : ℕ) → t ≡ u → i ≡ k → j ≡ l → shown limit (between t i j) ≡ shown limit (between u k l)
+shown_is t u i j k l limit text from to = rw (text, from, to) refl
+
+pub mark_is : (t x y : List ℕ) (ms ns all : List Mark) (id : ℕ) (p q a b : Point) (exclusive : Bool) → a ≡ clip x p → x ≡ t → b ≡ clip y q → y ≡ t → ns ≡ ms
+    → all ≡ with_mark (record { id = id; start = a; end = b; exclusive = exclusive }) ns → all ≡ with_mark (record { id = id; start = clip t p; end = clip t q; exclusive = exclusive }) ms
+mark_is t x y ms ns all id p q a b exclusive start first end second same is = is
+    ∙ ap (λ (r : Point). with_mark (record { id = id; start = r; end = b; exclusive = exclusive }) ns) (start ∙ ap (λ (u : List ℕ). clip u p) first)
+    ∙ ap (λ (r : Point). with_mark (record { id = id; start = clip t p; end = r; exclusive = exclusive }) ns) (end ∙ ap (λ (u : List ℕ). clip u q) second)
+    ∙ ap (with_mark (record { id = id; start = clip t p; end = clip t q; exclusive = exclusive })) same
+
+pub full_by : (n k : ℕ) → k ≤ n → nat_le k n ≡ true
+full_by n k h = grind (arith, nat_tests)
+
+pub room_by : (n k : ℕ) → n < k → nat_le k n ≡ false
+room_by n k h = grind (arith, nat_tests)
+
+pub some_by : (n : ℕ) (b : Bool) → b ≡ (n == 0) → b ≡ false → 0 < n
+some_by n b is some = grind (arith, nat_tests)
+
+-- the parts of the code after a step that was made
+pub taken_over : (b n : State) (p f q g : List Step) (cs : List Change) → 0 < length cs → n ≡ counted b → q ≡ take MAX_STEPS (cs ∷ p) → g ≡ []
+    → whole n q g ≡ counted (with_step cs (whole b p f))
+taken_over b n p f q g [] some body past future = absurd (omega arith)
+taken_over b n p f q g (c ∷ cs) some body past future = ap (λ (m : State). whole m q g) body ∙ ap (λ (ss : List Step). whole (counted b) ss g) past
+    ∙ ap (λ (ss : List Step). whole (counted b) (take MAX_STEPS ((c ∷ cs) ∷ p)) ss) future

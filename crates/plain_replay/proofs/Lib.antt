@@ -5,3 +5,4 @@ pub mod WholeLemmas
 pub mod FollowLemmas
 pub mod CallLemmas
 pub mod SoundLemmas
+pub mod EditLemmas

@@ -17,7 +17,7 @@ use Rattle.points.specs.MarkList.{MarkIsWithin, all_moved, with_mark, without_ma
 use Rattle.points.proofs.ClipLemmas.{clipped_at}
 use Rattle.points.proofs.ExtentParts.{point_at-replaced_end}
 use Rattle.points.proofs.MarkTextLemmas.{marks_moved, splice_within}
-use Rattle.machine.specs.Machine.{splice_at}
+use Rattle.machine.specs.Machine.{State, Watching, splice_at, heard_more, changed}
 use Rattle.plain_replay.specs.Standing.{IsSound}
 
 -- the splice of a replacement, by the point at the new text's end
@@ -89,3 +89,18 @@ sound_exclusive t ms id exclusive sound = record {
   marks = All-map (IsMarkOf t) (made_exclusive id exclusive) ms
       (All-weaker (IsMarkOf t) (λ (m : Mark). IsMarkOf t (made_exclusive id exclusive m)) (λ m both. kept_by t m exclusive (m.id == id) both) ms sound.marks);
 }
+
+-- the splice that the code makes of a change
+pub splice_made : (t x y new : List ℕ) (i j k : ℕ) (c : Splice) → c ≡ record { start = point_at x i; old_end = point_at x j; new_end = point_at y k } → x ≡ t → y ≡ replaced t i j new → k ≡ i + length new
+    → c ≡ splice_at t i j new
+splice_made t x y new i j k c is same after at = is ∙ rw (same, after, at) refl
+
+abbrev pub body_of : List ℕ → List Mark → List Watching → ℕ → ℕ → State
+body_of t ms ws n v = record { text = t; marks = ms; past = []; future = []; watchers = ws; count = n; version = v }
+
+-- the body that the code makes of a change
+pub made_body : (t x new : List ℕ) (ms ns : List Mark) (ws vs : List Watching) (n v i j : ℕ) → x ≡ replaced t i j new → ns ≡ all_moved (splice_at t i j new) ms
+    → vs ≡ map (heard_more (splice_at t i j new)) ws → body_of x ns vs n (n + 1) ≡ changed (body_of t ms ws n v) i j new
+made_body t x new ms ns ws vs n v i j text marks watchers = ap (λ (y : List ℕ). body_of y ns vs n (n + 1)) text
+    ∙ ap (λ (qs : List Mark). body_of (replaced t i j new) qs vs n (n + 1)) marks
+    ∙ ap (λ (us : List Watching). body_of (replaced t i j new) (all_moved (splice_at t i j new) ms) us n (n + 1)) watchers

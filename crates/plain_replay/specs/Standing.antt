@@ -35,9 +35,9 @@ AreFuture t [] = ⊤
 AreFuture t (step ∷ rest) = (u : List ℕ) × Leads t step u × AreFuture u rest
 
 -- both
-pub record HasSteps (t : List ℕ) (past future : List Step) : Type 0 where
-  pub past : ArePast t past
-  pub future : AreFuture t future
+pub record HasSteps (t : List ℕ) (before behind : List Step) : Type 0 where
+  pub past : ArePast t before
+  pub future : AreFuture t behind
 
 -- the text is within the limit, and the marks are marks of it, and not too many
 pub record IsSound (t : List ℕ) (ms : List Mark) : Type 0 where

@@ -1,15 +1,16 @@
 //! A text with its marks and its watchers, which a change changes together, and the numbers of its calls.
-ghost use Rattle.std.specs.Prelude.{◌≡◌, ◌+◌, ◌-◌, ◌<◌, ◌≤◌, ◌^◌, length, slice_range, IfOk};
-ghost use Rattle.points.specs.Text.{replaced, utf16_of};
+ghost use Rattle.std.specs.Prelude.{◌≡◌, ◌+◌, ◌<◌, ◌≤◌, ◌^◌, length, IfOk};
+ghost use Rattle.points.specs.Text.{replaced};
+ghost use Rattle.points.specs.Place.{point_at};
 ghost use Rattle.points.specs.declared.limits.TheConstants.{MAX_UNITS};
-ghost use Rattle.machine.specs.Machine.{splice_at, changed, part_of, nothing_made, one_made, member, put, counted, opened};
+ghost use Rattle.machine.specs.Machine.{changed, part_of, put, counted, opened};
 ghost use Rattle.plain_replay.specs.Standing.{IsSound, CanPut};
 
-use crate::change::{Change, Part};
-use crate::clip::{point_at, span};
+use crate::change::Part;
+use crate::clip::point_at;
 use crate::movement::{all_moved, hit_counts};
 use crate::watchers::Watchers;
-use points::{HitCounts, MAX_UNITS, Mark, NoMemory, Point, Range, Splice, Units, offset_of};
+use points::{Mark, NoMemory, Point, Splice, Units, offset_of};
 use std::alloc::Global;
 use std::marker::Model;
 
@@ -146,11 +147,8 @@ impl Body {
     {
         let alloc = *self.text.allocator();
         let text = replaced(alloc, self.text.as_slice(), from, to, new)?;
-        let splice = Splice {
-            start: point_at(self.text.as_slice(), from),
-            old_end: point_at(self.text.as_slice(), to),
-            new_end: point_at(text.as_slice(), from + new.len()),
-        };
+        let end = from + new.len();
+        let splice = splice_between(self.text.as_slice(), text.as_slice(), from, to, end);
         let hits = hit_counts(self.marks.as_slice(), splice);
         let marks = all_moved(alloc, self.marks.as_slice(), splice)?;
         let watchers = self.watchers.told(alloc, splice)?;
@@ -178,6 +176,28 @@ impl Body {
     {
         let from = offset_of(self.text(), start).unwrap_or(0);
         self.changed(from, from + old.len(), new)
+    }
+}
+
+// The splice between a text and the changed one, where the new units of that end at `end`.
+fn splice_between(
+    units: &[u16],
+    changed: &[u16],
+    from: usize,
+    to: usize,
+    end: usize,
+) -> Splice
+    requires order { from ≤ to }
+    requires within { to ≤ length units.now }
+    requires end { end ≤ length changed.now }
+    requires short { length units.now ≤ MAX_UNITS }
+    requires fits { length changed.now ≤ MAX_UNITS }
+    ensures { result ≡ record { start = point_at units.now from; old_end = point_at units.now to; new_end = point_at changed.now end } }
+{
+    Splice {
+        start: point_at(units, from),
+        old_end: point_at(units, to),
+        new_end: point_at(changed, end),
     }
 }
 

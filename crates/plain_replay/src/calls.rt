@@ -1,5 +1,5 @@
 //! The calls on marks and watchers, and the look: none of them changes the text.
-ghost use Rattle.std.specs.Prelude.{◌≡◌, ◌<◌, ◌^◌, OnOk, OnErr, IfOk};
+ghost use Rattle.std.specs.Prelude.{◌≡◌, ◌+◌, ◌<◌, ◌^◌, OnOk, OnErr, IfOk};
 ghost use Rattle.machine.specs.Machine.{look, add_mark, remove_mark, set_exclusive, mark_range, find_marks, compare_marks, watch, unwatch, with_marks, with_watchers, Done};
 ghost use Rattle.machine.specs.Machine as machine;
 ghost use Rattle.machine.specs.Answers.{reply_of};
@@ -49,8 +49,9 @@ impl Plain {
             exclusive,
         };
         let known = self.body.marks();
-        if let Some(_) = marks::mark_with(known, id) {
-            return Ok(self.refused(CallRefusal::MarkTaken));
+        match marks::mark_with(known, id) {
+            Some(_) => return Ok(self.refused(CallRefusal::MarkTaken)),
+            None => {}
         }
         if known.len() >= MAX_MARKS {
             return Ok(self.refused(CallRefusal::MarksFull));
@@ -66,11 +67,13 @@ impl Plain {
         ensures err { OnErr result (self.new ≡ self.old) }
     {
         let known = self.body.marks();
-        let Some(_) = marks::mark_with(known, id) else {
-            return Ok(self.refused(CallRefusal::MarkUnknown));
-        };
-        let others = marks::without_mark(self.body.alloc(), known, id)?;
-        Ok(self.put_marks(others))
+        match marks::mark_with(known, id) {
+            None => Ok(self.refused(CallRefusal::MarkUnknown)),
+            Some(_) => {
+                let others = marks::without_mark(self.body.alloc(), known, id)?;
+                Ok(self.put_marks(others))
+            }
+        }
     }
 
     /// Makes a mark exclusive or inclusive.
@@ -80,11 +83,13 @@ impl Plain {
         ensures err { OnErr result (self.new ≡ self.old) }
     {
         let known = self.body.marks();
-        let Some(_) = marks::mark_with(known, id) else {
-            return Ok(self.refused(CallRefusal::MarkUnknown));
-        };
-        let all = marks::with_exclusive(self.body.alloc(), known, id, exclusive)?;
-        Ok(self.put_marks(all))
+        match marks::mark_with(known, id) {
+            None => Ok(self.refused(CallRefusal::MarkUnknown)),
+            Some(_) => {
+                let all = marks::with_exclusive(self.body.alloc(), known, id, exclusive)?;
+                Ok(self.put_marks(all))
+            }
+        }
     }
 
     /// Shows where a mark is.
@@ -92,15 +97,15 @@ impl Plain {
         requires { self.old.count < 2 ^ 57 }
         ensures { (self.new, result) ≡ replayed self.old (mark_range id) }
     {
-        let Some(mark) = marks::mark_with(self.body.marks(), id) else {
-            return self.refused(CallRefusal::MarkUnknown);
-        };
-        Reply::Range {
-            at: self.body.number(),
-            exclusive: mark.exclusive,
-            range: Span {
-                start: mark.start,
-                end: mark.end,
+        match marks::mark_with(self.body.marks(), id) {
+            None => self.refused(CallRefusal::MarkUnknown),
+            Some(mark) => Reply::Range {
+                at: self.body.number(),
+                exclusive: mark.exclusive,
+                range: Span {
+                    start: mark.start,
+                    end: mark.end,
+                },
             },
         }
     }
@@ -123,15 +128,16 @@ impl Plain {
         requires { self.old.count < 2 ^ 57 }
         ensures { (self.new, result) ≡ replayed self.old (compare_marks a b) }
     {
-        let Some(first) = marks::mark_with(self.body.marks(), a) else {
-            return self.refused(CallRefusal::MarkUnknown);
+        let first = match marks::mark_with(self.body.marks(), a) {
+            None => return self.refused(CallRefusal::MarkUnknown),
+            Some(mark) => mark,
         };
-        let Some(second) = marks::mark_with(self.body.marks(), b) else {
-            return self.refused(CallRefusal::MarkUnknown);
-        };
-        Reply::Order {
-            at: self.body.number(),
-            order: marks::mark_order(first, second),
+        match marks::mark_with(self.body.marks(), b) {
+            None => self.refused(CallRefusal::MarkUnknown),
+            Some(second) => Reply::Order {
+                at: self.body.number(),
+                order: marks::mark_order(first, second),
+            },
         }
     }
 
@@ -142,8 +148,9 @@ impl Plain {
         ensures err { OnErr result (self.new ≡ self.old) }
     {
         let known = self.body.watchers();
-        if let Some(_) = known.heard(id) {
-            return Ok(self.refused(CallRefusal::WatchTaken));
+        match known.heard(id) {
+            Some(_) => return Ok(self.refused(CallRefusal::WatchTaken)),
+            None => {}
         }
         if known.len() >= MAX_WATCHERS {
             return Ok(self.refused(CallRefusal::WatchFull));
@@ -159,8 +166,9 @@ impl Plain {
         ensures ok { IfOk result (λ reply. (self.new, reply) ≡ replayed self.old (unwatch id)) }
         ensures err { OnErr result (self.new ≡ self.old) }
     {
-        let Some(heard) = self.body.watchers().heard(id) else {
-            return Ok(self.refused(CallRefusal::WatchUnknown));
+        let heard = match self.body.watchers().heard(id) {
+            None => return Ok(self.refused(CallRefusal::WatchUnknown)),
+            Some(heard) => heard,
         };
         let others = self.body.watchers().without(self.body.alloc(), id)?;
         let at = self.put_watchers(others);

@@ -1,7 +1,7 @@
 //! How a mark moves with a change of the text below it, and which marks a change hits.
 ghost use Rattle.std.specs.Prelude.{◌≡◌, ◌<◌, ◌^◌, ◌&&◌, not, length, count_by, IfOk, if◌then◌else◌};
 ghost use Rattle.std.specs.List.{All};
-ghost use Rattle.points.specs.Point.{IsWithin};
+ghost use Rattle.points.specs.Point.{IsWithin, point_lt};
 ghost use Rattle.points.specs.Marks.{moved, moved_boundary, is_empty_mark, touches, is_inside, overlaps, surrounds};
 ghost use Rattle.points.specs.MarkList.{MarkIsWithin, all_moved, hit_counts};
 
@@ -102,11 +102,22 @@ fn overlapped(marks: &[Mark], splice: Splice) -> u32
     requires { length marks.now < 2 ^ 32 }
     ensures { result ≡ count_by (overlaps splice) marks.now }
 {
-    let hit = |mark: &&Mark| {
-        (splice.start < mark.start && mark.start < splice.old_end)
-            || (splice.start < mark.end && mark.end < splice.old_end)
-    };
+    let hit = |mark: &&Mark| overlaps(splice, **mark);
     marks.iter().filter(hit).count() as u32
+}
+
+// Whether a boundary of the mark lies strictly within the replaced text.
+fn overlaps(splice: Splice, mark: Mark) -> bool
+    ensures { result ≡ overlaps splice mark }
+{
+    is_within(splice, mark.start) || is_within(splice, mark.end)
+}
+
+// Whether a point lies strictly within the replaced text.
+fn is_within(splice: Splice, point: Point) -> bool
+    ensures { result ≡ (point_lt splice.start point && point_lt point splice.old_end) }
+{
+    splice.start < point && point < splice.old_end
 }
 
 // How many lie strictly within it.

@@ -5,10 +5,8 @@ ghost use Rattle.points.specs.declared.limits.TheConstants.{MAX_UNITS};
 ghost use Rattle.machine.specs.Machine.{opened, edit, batch, undo, redo, counted, with_step};
 ghost use Rattle.machine.specs.Machine as machine;
 ghost use Rattle.machine.specs.Answers.{call_of, edit_of, reply_of};
-ghost use Rattle.machine.specs.Plain.{said, after_call};
-ghost use Rattle.machine.specs.declared.reply.Reply.TheVariants as reply;
 ghost use Rattle.plain_replay.specs.Standing.{IsSound, Leads, whole};
-ghost use Rattle.plain_replay.specs.Replayed.{replayed};
+ghost use Rattle.plain_replay.specs.Replayed.{replayed, replied};
 
 use crate::body::Body;
 use crate::change::{Change, Step};
@@ -73,7 +71,7 @@ impl Plain {
     pub fn step(&mut self, command: &Command) -> Result<Reply, NoMemory>
         requires numbered { IsSome (call_of command.now) }
         requires count { self.old.count < 2 ^ 57 - 1 }
-        ensures ok { IfOk result (λ r. (self.new, r) ≡ (after_call self.old (call_of command.now), said 2 self.old reply.Nothing (call_of command.now))) }
+        ensures ok { IfOk result (λ r. (self.new, r) ≡ replied self.old (call_of command.now)) }
         ensures err { OnErr result (self.new ≡ self.old) }
     {
         match command {
@@ -108,8 +106,9 @@ impl Plain {
         ensures ok { IfOk result (λ reply. (self.new, reply) ≡ replayed self.old (edit (range, utf16_of text.now))) }
         ensures err { OnErr result (self.new ≡ self.old) }
     {
-        let Some(done) = member(&self.body, range, text)? else {
-            return Ok(self.refused(CallRefusal::TooLong));
+        let done = match member(&self.body, range, text)? {
+            None => return Ok(self.refused(CallRefusal::TooLong)),
+            Some(done) => done,
         };
         let Progress { body, made, parts } = done;
         let reply = edited_reply(body.alloc(), self.body.count() + 1, parts.as_slice())?;
@@ -123,8 +122,9 @@ impl Plain {
         ensures ok { IfOk result (λ reply. (self.new, reply) ≡ replayed self.old (batch (map edit_of edits.now))) }
         ensures err { OnErr result (self.new ≡ self.old) }
     {
-        let Some(done) = members(&self.body, edits)? else {
-            return Ok(self.refused(CallRefusal::TooLong));
+        let done = match members(&self.body, edits)? {
+            None => return Ok(self.refused(CallRefusal::TooLong)),
+            Some(done) => done,
         };
         let Progress { body, made, parts } = done;
         let reply = batched_reply(body.alloc(), self.body.count() + 1, parts.as_slice())?;
@@ -185,11 +185,13 @@ impl Plain {
     {
         let mut body = body;
         body.number();
-        if !made.is_empty() {
-            self.past.insert(0, Step { changes: made })?;
-            self.past.truncate(MAX_STEPS);
-            self.future.clear();
+        if made.is_empty() {
+            self.body = body;
+            return Ok(());
         }
+        self.past.insert(0, Step { changes: made })?;
+        self.past.truncate(MAX_STEPS);
+        self.future.clear();
         self.body = body;
         Ok(())
     }

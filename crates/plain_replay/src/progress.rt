@@ -1,8 +1,8 @@
 //! Edits of a text, one after the other.
-ghost use Rattle.std.specs.Prelude.{◌≡◌, ◌+◌, ◌-◌, ◌<◌, ◌≤◌, ◌^◌, [], length, map, IfOk};
+ghost use Rattle.std.specs.Prelude.{◌≡◌, ◌-◌, ◌<◌, ◌≤◌, ◌^◌, ◌==◌, ◌&&◌, [], length, map, nat_lt, IfOk};
 ghost use Rattle.points.specs.Text.{replaced, utf16_of};
 ghost use Rattle.points.specs.declared.limits.TheConstants.{MAX_UNITS};
-ghost use Rattle.machine.specs.Machine.{nothing_made, one_made, member, members, joined, no_hits};
+ghost use Rattle.machine.specs.Machine.{nothing_made, one_made, member, members, joined};
 ghost use Rattle.machine.specs.Answers.{edit_of};
 
 use crate::body::Body;
@@ -89,13 +89,30 @@ pub(crate) fn member(
 {
     let new = Units::from_str(body.alloc(), text)?;
     let (from, to) = span(body.text(), range);
-    if from == to && new.len() == 0 {
+    if changes_nothing(from, to, new.as_slice()) {
         return Ok(Some(nothing_made(body, from)?));
     }
-    if new.len() > MAX_UNITS - (body.text().len() - (to - from)) {
+    if is_too_long(body.text(), from, to, new.as_slice()) {
         return Ok(None);
     }
     Ok(Some(one_made(body, from, to, new)?))
+}
+
+// Whether an edit from one offset up to another leaves everything as it was.
+fn changes_nothing(from: usize, to: usize, new: &[u16]) -> bool
+    ensures { result ≡ ((from == to) && (length new.now == 0)) }
+{
+    from == to && new.is_empty()
+}
+
+// Whether the text would be too long.
+fn is_too_long(units: &[u16], from: usize, to: usize, new: &[u16]) -> bool
+    requires order { from ≤ to }
+    requires within { to ≤ length units.now }
+    requires short { length units.now ≤ MAX_UNITS }
+    ensures { result ≡ nat_lt MAX_UNITS (length (replaced units.now from to new.now)) }
+{
+    new.len() > MAX_UNITS - (units.len() - (to - from))
 }
 
 // The edit that changes nothing.

@@ -6,7 +6,7 @@ ghost use Rattle.machine.specs.Answers.{reply_of, reply_part, hit_numbers};
 use crate::change::Part;
 use machine::{HitNumbers, Reply, ReplyPart, Sequence};
 use points::{HitCounts, NoMemory};
-use std::alloc::Global;
+use std::alloc::{AllocError, Global};
 
 /// The reply to a call that makes several changes.
 pub(crate) fn batched_reply(alloc: Global, at: u64, parts: &[Part]) -> Result<Reply, NoMemory>
@@ -42,14 +42,10 @@ pub(crate) fn edited_reply(alloc: Global, at: u64, parts: &[Part]) -> Result<Rep
 }
 
 // Each part in the form of a reply.
-fn reply_parts(alloc: Global, parts: &[Part]) -> Result<Vec<ReplyPart>, NoMemory>
+fn reply_parts(alloc: Global, parts: &[Part]) -> Result<Vec<ReplyPart>, AllocError>
     ensures { IfOk result (λ v. v.items ≡ map reply_part parts.now) }
 {
-    let mut all = Vec::new(alloc);
-    for part in parts {
-        all.push(reply_part(part))?;
-    }
-    Ok(all)
+    parts.iter().map(|part| reply_part(part)).collect(alloc)
 }
 
 fn reply_part(part: &Part) -> ReplyPart
