@@ -216,8 +216,11 @@ full_by n k h = grind (arith, nat_tests)
 pub room_by : (n k : ℕ) → n < k → nat_le k n ≡ false
 room_by n k h = grind (arith, nat_tests)
 
-pub some_by : (n : ℕ) (b : Bool) → b ≡ (n == 0) → b ≡ false → 0 < n
-some_by n b is some = grind (arith, nat_tests)
+pub some_by : (v n : ℕ) (b : Bool) → b ≡ (v == 0) → b ≡ false → v ≡ n → 0 < n
+some_by v n b is some same = grind (arith, nat_tests)
+
+pub none_by : (v n : ℕ) (b : Bool) → b ≡ (v == 0) → b ≡ true → v ≡ n → n ≡ 0
+none_by v n b is none same = grind (arith, nat_tests)
 
 -- the parts of the code after a step that was made
 pub taken_over : (b n : State) (p f q g : List Step) (cs : List Change) → 0 < length cs → n ≡ counted b → q ≡ take MAX_STEPS (cs ∷ p) → g ≡ []
@@ -225,3 +228,49 @@ pub taken_over : (b n : State) (p f q g : List Step) (cs : List Change) → 0 < 
 taken_over b n p f q g [] some body past future = absurd (omega arith)
 taken_over b n p f q g (c ∷ cs) some body past future = ap (λ (m : State). whole m q g) body ∙ ap (λ (ss : List Step). whole (counted b) ss g) past
     ∙ ap (λ (ss : List Step). whole (counted b) (take MAX_STEPS ((c ∷ cs) ∷ p)) ss) future
+
+-- the same at a state that the parts are seen as
+pub edit_refused_at : (b s : State) (p f : List Step) (e : Edit) → whole b p f ≡ s → None ≡ member b e → refusal s no.TooLong ≡ replayed s (edit e)
+edit_refused_at b s p f e seen none = subst (λ (x : State). refusal x no.TooLong ≡ replayed x (edit e)) seen (edit_refused b p f e none)
+
+pub batch_refused_at : (b s : State) (p f : List Step) (es : List Edit) → whole b p f ≡ s → None ≡ members b es → refusal s no.TooLong ≡ replayed s (batch es)
+batch_refused_at b s p f es seen none = subst (λ (x : State). refusal x no.TooLong ≡ replayed x (batch es)) seen (batch_refused b p f es none)
+
+-- the edits' body and changes, taken over
+pub edit_done_at : (b s : State) (p f : List Step) (e : Edit) (g : Progress) (n : State) (r : Reply) → whole b p f ≡ s → Some g ≡ member b e
+    → n ≡ counted (with_step g.made (whole g.state s.past s.future)) → r ≡ reply_of 2 (b.count + 1) (edited_one g.parts) → pair n r ≡ replayed s (edit e)
+edit_done_at b s p f e g n r seen some state reply =
+    same_pair n (counted (with_step g.made (whole g.state p f))) r (reply_of 2 (b.count + 1) (edited_one g.parts))
+        (state ∙ ap (λ (x : State). counted (with_step g.made (whole g.state x.past x.future))) (sym seen)) reply
+    ∙ edit_done b p f e g some ∙ ap (λ (x : State). replayed x (edit e)) seen
+
+pub batch_done_at : (b s : State) (p f : List Step) (es : List Edit) (g : Progress) (n : State) (r : Reply) → whole b p f ≡ s → Some g ≡ members b es
+    → n ≡ counted (with_step g.made (whole g.state s.past s.future)) → r ≡ reply_of 2 (b.count + 1) (Batched g.parts) → pair n r ≡ replayed s (batch es)
+batch_done_at b s p f es g n r seen some state reply =
+    same_pair n (counted (with_step g.made (whole g.state p f))) r (reply_of 2 (b.count + 1) (Batched g.parts))
+        (state ∙ ap (λ (x : State). counted (with_step g.made (whole g.state x.past x.future))) (sym seen)) reply
+    ∙ batch_done b p f es g some ∙ ap (λ (x : State). replayed x (batch es)) seen
+
+pub undo_refused_at : (b s : State) (p f : List Step) → whole b p f ≡ s → length p ≡ 0 → refusal s no.Nothing ≡ replayed s undo
+undo_refused_at b s p f seen none = subst (λ (x : State). refusal x no.Nothing ≡ replayed x undo) seen (undo_refused b p f none)
+
+pub redo_refused_at : (b s : State) (p f : List Step) → whole b p f ≡ s → length f ≡ 0 → refusal s no.Nothing ≡ replayed s redo
+redo_refused_at b s p f seen none = subst (λ (x : State). refusal x no.Nothing ≡ replayed x redo) seen (redo_refused b p f none)
+
+pub undo_done_at : (b s : State) (p f q g : List Step) (first : Step) (m n : State) (parts : List Part) (r : Reply) (k : ℕ) → whole b p f ≡ s → 0 < length p → first ≡ slice_index_or p 0 first
+    → m ≡ (undone b first).0 → parts ≡ (undone b first).1 → n ≡ counted m → k ≡ m.count + 1 → q ≡ drop 1 p → g ≡ take 1 p ++ f → r ≡ reply_of 2 k (Batched parts)
+    → pair (whole n q g) r ≡ replayed s undo
+undo_done_at b s p f q g first m n parts r k seen some at body answered number numbered past future reply =
+    same_pair (whole n q g) (counted (whole m (drop 1 p) (take 1 p ++ f))) r (reply_of 2 (b.count + 1) (Batched parts))
+        (ap (λ (x : State). whole x q g) number ∙ ap (λ (xs : List Step). whole (counted m) xs g) past ∙ ap (λ (xs : List Step). whole (counted m) (drop 1 p) xs) future)
+        (reply ∙ ap (λ (i : ℕ). reply_of 2 i (Batched parts)) (numbered ∙ ap (λ (i : ℕ). i + 1) (ap (λ (x : State). x.count) body ∙ undone_count first b)))
+    ∙ undo_done b p f first m parts some at body answered ∙ ap (λ (x : State). replayed x undo) seen
+
+pub redo_done_at : (b s : State) (p f q g : List Step) (first : Step) (m n : State) (parts : List Part) (r : Reply) (k : ℕ) → whole b p f ≡ s → 0 < length f → first ≡ slice_index_or f 0 first
+    → m ≡ (redone b first).0 → parts ≡ (redone b first).1 → n ≡ counted m → k ≡ m.count + 1 → q ≡ take 1 f ++ p → g ≡ drop 1 f → r ≡ reply_of 2 k (Batched parts)
+    → pair (whole n q g) r ≡ replayed s redo
+redo_done_at b s p f q g first m n parts r k seen some at body answered number numbered past future reply =
+    same_pair (whole n q g) (counted (whole m (take 1 f ++ p) (drop 1 f))) r (reply_of 2 (b.count + 1) (Batched parts))
+        (ap (λ (x : State). whole x q g) number ∙ ap (λ (xs : List Step). whole (counted m) xs g) past ∙ ap (λ (xs : List Step). whole (counted m) (take 1 f ++ p) xs) future)
+        (reply ∙ ap (λ (i : ℕ). reply_of 2 i (Batched parts)) (numbered ∙ ap (λ (i : ℕ). i + 1) (ap (λ (x : State). x.count) body ∙ redone_count first b)))
+    ∙ redo_done b p f first m parts some at body answered ∙ ap (λ (x : State). replayed x redo) seen

@@ -134,3 +134,18 @@ steps_kept t u p f same has = subst (λ (x : List ℕ). HasSteps x p f) same has
 pub leads_nowhere : (t u : List ℕ) (cs : List Change) → length cs ≡ 0 → Leads t cs u → t ≡ u
 leads_nowhere t u [] none leads = leads
 leads_nowhere t u (c ∷ cs) none leads = absurd (omega arith)
+
+-- the same, of the first change of a list
+pub can_redo_at : (cs : List Change) (c : Change) (t u : List ℕ) → 1 ≤ length cs → c ≡ slice_index_or cs 0 c → Leads t cs u → CanPut t c.start c.old c.new
+can_redo_at [] c t u some at leads = absurd (omega arith)
+can_redo_at (d ∷ ds) c t u some at leads = subst (λ (x : Change). CanPut t x.start x.old x.new) (sym at) (can_put t d leads.0 leads.1)
+
+pub can_undo_at : (cs ds : List Change) (c : Change) (s : State) (t : List ℕ) → 1 ≤ length cs → c ≡ slice_index_or cs 0 c → ds ≡ drop 1 cs → Leads t cs s.text → CanPut (undone s ds).0.text c.start c.new c.old
+can_undo_at [] ds c s t some at rest leads = absurd (omega arith)
+can_undo_at (d ∷ es) ds c s t some at rest leads = subst (λ (xs : List Change). CanPut (undone s xs).0.text c.start c.new c.old) (sym rest)
+    (subst (λ (x : Change). CanPut (undone s es).0.text x.start x.new x.old) (sym at) (can_undo d es s t leads))
+
+pub leads_behind_at : (cs ds : List Change) (c : Change) (s : State) (u : List ℕ) → 1 ≤ length cs → c ≡ slice_index_or cs 0 c → ds ≡ drop 1 cs → Leads s.text cs u → Leads (put s c.start c.old c.new).0.text ds u
+leads_behind_at [] ds c s u some at rest leads = absurd (omega arith)
+leads_behind_at (d ∷ es) ds c s u some at rest leads = subst (λ (xs : List Change). Leads (put s c.start c.old c.new).0.text xs u) (sym rest)
+    (subst (λ (x : Change). Leads (put s x.start x.old x.new).0.text es u) (sym at) (leads_behind d es s u leads))

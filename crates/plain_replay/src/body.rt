@@ -79,7 +79,8 @@ impl Body {
 
     /// How many calls were numbered.
     pub(crate) fn count(&self) -> u64
-        ensures { result ≡ self.now.count }
+        ensures number { result ≡ self.now.count }
+        ensures sound { IsSound self.now.text self.now.marks }
     {
         self.count
     }

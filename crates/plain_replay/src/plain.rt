@@ -12,7 +12,7 @@ use crate::body::Body;
 use crate::change::{Change, Step};
 use crate::progress::{Progress, member, members};
 use crate::replies::{batched_reply, edited_reply};
-use crate::steps::{cross, redone, undone};
+use crate::steps::{cross, first, redone, undone};
 use machine::{BatchEdit, CallRefusal, Command, Reply};
 use points::{MAX_STEPS, NoMemory, Range, Units};
 use std::alloc::Global;
@@ -141,7 +141,7 @@ impl Plain {
         if self.past.is_empty() {
             return Ok(self.refused(CallRefusal::Nothing));
         }
-        let (mut body, parts) = undone(&self.body, self.past[0].changes.as_slice())?;
+        let (mut body, parts) = undone(&self.body, first(self.past.as_slice()))?;
         let at = body.number();
         let reply = batched_reply(body.alloc(), at, parts.as_slice())?;
         cross(&mut self.past, &mut self.future)?;
@@ -158,7 +158,7 @@ impl Plain {
         if self.future.is_empty() {
             return Ok(self.refused(CallRefusal::Nothing));
         }
-        let (mut body, parts) = redone(&self.body, self.future[0].changes.as_slice())?;
+        let (mut body, parts) = redone(&self.body, first(self.future.as_slice()))?;
         let at = body.number();
         let reply = batched_reply(body.alloc(), at, parts.as_slice())?;
         cross(&mut self.future, &mut self.past)?;

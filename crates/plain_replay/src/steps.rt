@@ -1,5 +1,5 @@
 //! Steps taken back and made again.
-ghost use Rattle.std.specs.Prelude.{◌≡◌, ℕ, ◌<◌, ◌^◌, ◌++◌, List, length, take, drop, IfOk, OnOk, OnErr};
+ghost use Rattle.std.specs.Prelude.{◌≡◌, ℕ, ◌<◌, ◌^◌, ◌++◌, List, length, take, drop, slice_index_or, IfOk, OnOk, OnErr};
 ghost use Rattle.machine.specs.Machine.{undone, redone};
 ghost use Rattle.plain_replay.specs.Standing.{Leads};
 
@@ -37,6 +37,15 @@ pub(crate) fn redone(body: &Body, changes: &[Change]) -> Result<(Body, Vec<Part>
     let (body, mut parts) = redone(&body, later)?;
     parts.insert(0, part)?;
     Ok((body, parts))
+}
+
+/// The changes of the first step.
+pub(crate) fn first(steps: &[Step]) -> &[Change]
+    requires { 0 < length steps.now }
+    ensures { result.now ≡ slice_index_or steps.now 0 result.now }
+{
+    let step = &steps[0];
+    step.changes.as_slice()
 }
 
 /// Moves the first step of one list to the front of another.

@@ -1,4 +1,4 @@
-use Rattle.std.proofs.Common.{◌≡◌, ◌<◌, ◌∙◌, ap, sym, subst, List, [], ◌∷◌, take, length, arith}
+use Rattle.std.proofs.Common.{◌≡◌, ◌==◌, ◌<◌, ◌∙◌, ap, sym, subst, List, [], ◌∷◌, take, length, arith}
 use Rattle.machine.specs.Machine.{State, Step, counted, with_step}
 use Rattle.points.specs.declared.limits.TheConstants.{MAX_STEPS}
 use Rattle.plain_replay.specs.Standing.{HasSteps, Leads, whole}
@@ -17,7 +17,7 @@ invariant_of-self-2 c =
 
 pub returns-clause-ok : goal.returns-clause-ok
 returns-clause-ok c =
-    let some : 0 < length c.args.made.items = some_by (length c.args.made.items) c.is_empty.result (c.is_empty.ensures ∙ ap (λ n. n == 0) c.args.made.ok) c.if-is_empty.false in
+    let some : 0 < length c.args.made.items = some_by _ (length c.args.made.items) c.is_empty.result c.is_empty.ensures c.if-is_empty.false (omega (arith, c.args.made.ok)) in
     taken_over c.args.body c.number.new.self c.self.inside.past.items c.self.inside.future.items c.truncate.new.self.items c.clear.new.self.items c.args.made.items some
     c.number.ensures.body (c.truncate.ensures.items ∙ ap (take MAX_STEPS) c.in_ok-insert.ensures.items) c.clear.ensures.items
     ∙ ap (λ (s : State). counted (with_step c.args.made.items (whole c.args.body s.past s.future))) c.self.view_is
