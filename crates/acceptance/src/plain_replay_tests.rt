@@ -59,13 +59,15 @@ fn edits(plain: &mut Plain, alloc: Global, text: &str, row: Row) -> bool {
         return false;
     };
     match answer(plain, &Command::Edit { range, text }) {
-        Some(Reply::Edited {
-            at: _,
-            end,
-            from,
-            hits,
-            to,
-        }) => {
+        Some(
+            Reply::Edited {
+                at: _,
+                end,
+                from,
+                hits,
+                to,
+            },
+        ) => {
             let told = ReplyPart {
                 end,
                 from,
@@ -115,11 +117,13 @@ fn mark(plain: &mut Plain, id: u32, from: u32, to: u32, exclusive: bool) -> Opti
 // Whether the mark stands between these columns.
 fn is_at(plain: &mut Plain, id: u32, from: u32, to: u32) -> bool {
     match answer(plain, &Command::Range { id }) {
-        Some(Reply::Range {
-            at: _,
-            exclusive: _,
-            range,
-        }) => range.start == at(from) && range.end == at(to),
+        Some(
+            Reply::Range {
+                at: _,
+                exclusive: _,
+                range,
+            },
+        ) => range.start == at(from) && range.end == at(to),
         _ => false,
     }
 }
@@ -165,7 +169,12 @@ fn marks_on_hello(rt: HostRuntime) -> Result<(), Fail> {
     assert!(rt; is_at(&mut plain, 1, 1, 4));
     assert!(rt; finds(&mut plain, 4, 1));
     assert!(rt; is_same(&mut plain, 1));
-    assert!(rt; is_refused(answer(&mut plain, &Command::Unmark { id: 9 }), CallRefusal::MarkUnknown));
+    assert!(rt;
+        is_refused(
+            answer(&mut plain, &Command::Unmark { id: 9 }),
+            CallRefusal::MarkUnknown
+        )
+    );
     assert!(rt; plain.count() == 7);
     Ok(())
 }
@@ -202,10 +211,20 @@ fn undo_of_a_carriage_return_before_a_line_feed(rt: HostRuntime) -> Result<(), F
     let mut plain = Plain::start(rt.alloc(), "\n")?;
     assert!(rt; edits(&mut plain, rt.alloc(), "\r", ([0, 0, 1], [0, 0, 0, 0])));
     assert!(rt; reads(&plain, &[13, 10]));
-    assert!(rt; is_part(answer(&mut plain, &Command::Undo), ([0, 1, 0], [0, 0, 0, 0])));
+    assert!(rt;
+        is_part(
+            answer(&mut plain, &Command::Undo),
+            ([0, 1, 0], [0, 0, 0, 0])
+        )
+    );
     assert!(rt; reads(&plain, &[10]));
     assert!(rt; is_refused(answer(&mut plain, &Command::Undo), CallRefusal::Nothing));
-    assert!(rt; is_part(answer(&mut plain, &Command::Redo), ([0, 0, 1], [0, 0, 0, 0])));
+    assert!(rt;
+        is_part(
+            answer(&mut plain, &Command::Redo),
+            ([0, 0, 1], [0, 0, 0, 0])
+        )
+    );
     assert!(rt; reads(&plain, &[13, 10]));
     Ok(())
 }
@@ -214,11 +233,26 @@ fn undo_of_a_carriage_return_before_a_line_feed(rt: HostRuntime) -> Result<(), F
 fn a_watcher_hears_each_change_once(rt: HostRuntime) -> Result<(), Fail> {
     let mut plain = Plain::start(rt.alloc(), "ab")?;
     assert!(rt; is_done(answer(&mut plain, &Command::Watch { id: 7 })));
-    assert!(rt; is_refused(answer(&mut plain, &Command::Watch { id: 7 }), CallRefusal::WatchTaken));
+    assert!(rt;
+        is_refused(
+            answer(&mut plain, &Command::Watch { id: 7 }),
+            CallRefusal::WatchTaken
+        )
+    );
     assert!(rt; edits(&mut plain, rt.alloc(), "x", ([0, 0, 1], [0, 0, 0, 0])));
     assert!(rt; edits(&mut plain, rt.alloc(), "", ([0, 0, 0], [0, 0, 0, 0])));
-    assert!(rt; is_part(answer(&mut plain, &Command::Undo), ([0, 1, 0], [0, 0, 0, 0])));
+    assert!(rt;
+        is_part(
+            answer(&mut plain, &Command::Undo),
+            ([0, 1, 0], [0, 0, 0, 0])
+        )
+    );
     assert!(rt; heard(&mut plain, 7) == Some(2));
-    assert!(rt; is_refused(answer(&mut plain, &Command::Unwatch { id: 7 }), CallRefusal::WatchUnknown));
+    assert!(rt;
+        is_refused(
+            answer(&mut plain, &Command::Unwatch { id: 7 }),
+            CallRefusal::WatchUnknown
+        )
+    );
     Ok(())
 }

@@ -14,7 +14,7 @@ use Rattle.machine.specs.declared.command.How.{How}
 use Rattle.machine.specs.declared.reply.Reply.{Reply}
 use Rattle.machine.specs.declared.reply.CallRefusal.{CallRefusal}
 use Rattle.machine.specs.declared.reply.CallRefusal.TheVariants as no
-use Rattle.machine.specs.Machine.{State, Step, Change, Part, Progress, Edit, Watching, Answer, Batched, Refused, Shown, Done, Ranged, Found, Compared, Heard, edit, batch, undo, redo, look, add_mark, remove_mark, set_exclusive, mark_range, find_marks, compare_marks, watch, unwatch, step, edited, edited_one, counted, with_step, member, members, undone, redone, undo_step, redo_step, shown, between, tells, with_marks, on_mark, finds, watcher_with, with_watcher, with_watchers, unwatch_step}
+use Rattle.machine.specs.Machine.{State, Step, Change, Part, Progress, Edit, Watching, Answer, Batched, Refused, Shown, Done, Ranged, Found, Compared, Heard, edit, batch, undo, redo, look, add_mark, remove_mark, set_exclusive, mark_range, find_marks, compare_marks, watch, unwatch, step, edited, edited_one, counted, with_step, member, members, undone, redone, shown, between, tells, with_marks, on_mark, finds, watcher_with, with_watcher, with_watchers, unwatch_step}
 use Rattle.machine.specs.Answers.{reply_of}
 use Rattle.plain_replay.specs.Standing.{whole}
 use Rattle.plain_replay.specs.Replayed.{told, replayed}
@@ -241,14 +241,14 @@ pub edit_done_at : (b s : State) (p f : List Step) (e : Edit) (g : Progress) (n 
     → n ≡ counted (with_step g.made (whole g.state s.past s.future)) → r ≡ reply_of 2 (b.count + 1) (edited_one g.parts) → pair n r ≡ replayed s (edit e)
 edit_done_at b s p f e g n r seen some state reply =
     same_pair n (counted (with_step g.made (whole g.state p f))) r (reply_of 2 (b.count + 1) (edited_one g.parts))
-        (state ∙ ap (λ (x : State). counted (with_step g.made (whole g.state x.past x.future))) (sym seen)) reply
+    (state ∙ ap (λ (x : State). counted (with_step g.made (whole g.state x.past x.future))) (sym seen)) reply
     ∙ edit_done b p f e g some ∙ ap (λ (x : State). replayed x (edit e)) seen
 
 pub batch_done_at : (b s : State) (p f : List Step) (es : List Edit) (g : Progress) (n : State) (r : Reply) → whole b p f ≡ s → Some g ≡ members b es
     → n ≡ counted (with_step g.made (whole g.state s.past s.future)) → r ≡ reply_of 2 (b.count + 1) (Batched g.parts) → pair n r ≡ replayed s (batch es)
 batch_done_at b s p f es g n r seen some state reply =
     same_pair n (counted (with_step g.made (whole g.state p f))) r (reply_of 2 (b.count + 1) (Batched g.parts))
-        (state ∙ ap (λ (x : State). counted (with_step g.made (whole g.state x.past x.future))) (sym seen)) reply
+    (state ∙ ap (λ (x : State). counted (with_step g.made (whole g.state x.past x.future))) (sym seen)) reply
     ∙ batch_done b p f es g some ∙ ap (λ (x : State). replayed x (batch es)) seen
 
 pub undo_refused_at : (b s : State) (p f : List Step) → whole b p f ≡ s → length p ≡ 0 → refusal s no.Nothing ≡ replayed s undo
@@ -262,8 +262,8 @@ pub undo_done_at : (b s : State) (p f q g : List Step) (first : Step) (m n : Sta
     → pair (whole n q g) r ≡ replayed s undo
 undo_done_at b s p f q g first m n parts r k seen some at body answered number numbered past future reply =
     same_pair (whole n q g) (counted (whole m (drop 1 p) (take 1 p ++ f))) r (reply_of 2 (b.count + 1) (Batched parts))
-        (ap (λ (x : State). whole x q g) number ∙ ap (λ (xs : List Step). whole (counted m) xs g) past ∙ ap (λ (xs : List Step). whole (counted m) (drop 1 p) xs) future)
-        (reply ∙ ap (λ (i : ℕ). reply_of 2 i (Batched parts)) (numbered ∙ ap (λ (i : ℕ). i + 1) (ap (λ (x : State). x.count) body ∙ undone_count first b)))
+    (ap (λ (x : State). whole x q g) number ∙ ap (λ (xs : List Step). whole (counted m) xs g) past ∙ ap (λ (xs : List Step). whole (counted m) (drop 1 p) xs) future)
+    (reply ∙ ap (λ (i : ℕ). reply_of 2 i (Batched parts)) (numbered ∙ ap (λ (i : ℕ). i + 1) (ap (λ (x : State). x.count) body ∙ undone_count first b)))
     ∙ undo_done b p f first m parts some at body answered ∙ ap (λ (x : State). replayed x undo) seen
 
 pub redo_done_at : (b s : State) (p f q g : List Step) (first : Step) (m n : State) (parts : List Part) (r : Reply) (k : ℕ) → whole b p f ≡ s → 0 < length f → first ≡ slice_index_or f 0 first
@@ -271,6 +271,6 @@ pub redo_done_at : (b s : State) (p f q g : List Step) (first : Step) (m n : Sta
     → pair (whole n q g) r ≡ replayed s redo
 redo_done_at b s p f q g first m n parts r k seen some at body answered number numbered past future reply =
     same_pair (whole n q g) (counted (whole m (take 1 f ++ p) (drop 1 f))) r (reply_of 2 (b.count + 1) (Batched parts))
-        (ap (λ (x : State). whole x q g) number ∙ ap (λ (xs : List Step). whole (counted m) xs g) past ∙ ap (λ (xs : List Step). whole (counted m) (take 1 f ++ p) xs) future)
-        (reply ∙ ap (λ (i : ℕ). reply_of 2 i (Batched parts)) (numbered ∙ ap (λ (i : ℕ). i + 1) (ap (λ (x : State). x.count) body ∙ redone_count first b)))
+    (ap (λ (x : State). whole x q g) number ∙ ap (λ (xs : List Step). whole (counted m) xs g) past ∙ ap (λ (xs : List Step). whole (counted m) (take 1 f ++ p) xs) future)
+    (reply ∙ ap (λ (i : ℕ). reply_of 2 i (Batched parts)) (numbered ∙ ap (λ (i : ℕ). i + 1) (ap (λ (x : State). x.count) body ∙ redone_count first b)))
     ∙ redo_done b p f first m parts some at body answered ∙ ap (λ (x : State). replayed x redo) seen

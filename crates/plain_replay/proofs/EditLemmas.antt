@@ -1,9 +1,9 @@
 -- One edit, case by case.
-use Rattle.std.proofs.Common.{◌≡◌, ℕ, ◌+◌, ◌-◌, ◌<◌, ◌≤◌, List, ◌∷◌, length, Bool, true, false, cond, Option, Some, None, refl, sym, ap, ◌∙◌, subst, arith}
+use Rattle.std.proofs.Common.{◌≡◌, ℕ, ◌≤◌, List, ◌∷◌, length, Bool, true, false, cond, Option, Some, None, sym, ap, ◌∙◌, arith}
 use Rattle.std.specs.Prelude.{◌==◌, ◌&&◌, nat_lt, option_map, option_and_then}
 use Rattle.std.proofs.lemmas.Bool.Decides.{nat_tests}
 use Rattle.points.specs.Text.{replaced}
-use Rattle.points.specs.Place.{span, clipped_offset}
+use Rattle.points.specs.Place.{clipped_offset}
 use Rattle.points.specs.declared.limits.TheConstants.{MAX_UNITS}
 use Rattle.machine.specs.Machine.{State, Edit, Progress, nothing_made, one_made, member, members, joined}
 

@@ -1,5 +1,5 @@
 -- What edits make: changes that lead from the text before them to the text behind them.
-use Rattle.std.proofs.Common.{◌≡◌, ℕ, ◌+◌, ◌-◌, ◌<◌, ◌≤◌, List, [], ◌∷◌, ◌++◌, length, take, drop, Bool, true, false, cond, Option, Some, None, refl, sym, ap, ◌∙◌, subst, arith, length-drop}
+use Rattle.std.proofs.Common.{◌≡◌, ℕ, ◌+◌, ◌-◌, ◌≤◌, List, [], ◌∷◌, length, take, drop, Bool, true, false, cond, Option, Some, None, refl, sym, ap, ◌∙◌, subst, arith, length-drop}
 use Rattle.std.specs.Prelude.{◌==◌, ◌&&◌, nat_lt, option_map, option_and_then}
 use Rattle.std.proofs.lemmas.Bool.Decides.{nat_tests}
 use Rattle.std.proofs.lemmas.List.{length-take-le}
@@ -8,7 +8,7 @@ use Rattle.points.specs.Place.{span}
 use Rattle.points.proofs.ClipLemmas.{clipped_offset_mono, clipped_at}
 use Rattle.points.specs.declared.limits.TheConstants.{MAX_UNITS}
 use Rattle.machine.specs.Machine.{State, Change, Progress, Edit, between, change_of, nothing_made, one_made, member, members, joined, put, undone, redone}
-use Rattle.plain_replay.specs.Standing.{Makes, Leads, Follows}
+use Rattle.plain_replay.specs.Standing.{Makes, Follows}
 use Rattle.plain_replay.proofs.StandingLemmas.{leads-append}
 
 one_makes : (s : State) (i j : ℕ) (new : List ℕ) → i ≤ j → j ≤ length s.text → length s.text ≤ MAX_UNITS → length (replaced s.text i j new) ≤ MAX_UNITS

@@ -1,7 +1,7 @@
 -- Watchers as they are kept, and as they are seen: what the calls on the one make of the other.
-use Rattle.std.proofs.Common.{◌≡◌, ℕ, zero, suc, ◌+◌, ◌-◌, ◌<◌, ◌≤◌, Bool, true, false, cond, List, [], ◌∷◌, ◌++◌, map, find, length, drop, Option, Some, None, not, ◌==◌, nat_lt, refl, sym, ap, ◌∙◌, subst, arith, length-append, length-drop}
+use Rattle.std.proofs.Common.{◌≡◌, ℕ, suc, ◌-◌, ◌≤◌, Bool, true, false, cond, List, [], ◌∷◌, ◌++◌, map, find, length, drop, Option, Some, None, not, ◌==◌, nat_lt, refl, sym, ap, ◌∙◌, subst, arith, length-append, length-drop}
 use Rattle.std.specs.Prelude.{option_map}
-use Rattle.std.specs.List.{All, filter}
+use Rattle.std.specs.List.{filter}
 use Rattle.std.proofs.lemmas.List.{drop-append-le, drop_all, map-append, length-map}
 use Rattle.std.proofs.lemmas.List.Elements.{All-cons, All-append, All-filter, All-weaker}
 use Rattle.points.specs.declared.mark.Splice.{Splice}
@@ -41,8 +41,8 @@ seats_with told id seats = map-append (watching told) (filter (λ s. nat_lt s.id
 pub are_seats_with : (n id : ℕ) (seats : List Seat) → AreSeats n seats → AreSeats n (with_seat (record { id = id; since = n }) seats)
 are_seats_with n id seats all = All-append InTime (filter (λ s. nat_lt s.id id) seats) _ (All-filter _ InTime seats all)
     (All-cons InTime (record { id = id; since = n }) (filter (λ s. nat_lt id s.id) seats) (omega arith) (All-filter _ InTime seats all)) where
-  InTime : Seat → Type 0
-  InTime s = s.since ≤ n
+      InTime : Seat → Type 0
+      InTime s = s.since ≤ n
 
 pub seats_without : (told : List Splice) (id : ℕ) (seats : List Seat) → map (watching told) (filter (λ s. not (s.id == id)) seats) ≡ filter (λ v. not (v.id == id)) (map (watching told) seats)
 seats_without told id seats = sym (filter_of_map (watching told) (λ v. not (v.id == id)) seats)
@@ -54,8 +54,8 @@ are_seats_without n id seats all = All-filter (λ s. not (s.id == id)) (λ s. s.
 told_more : (told : List Splice) (c : Splice) (s : Seat) → s.since ≤ length told → watching (told ++ c ∷ []) s ≡ heard_more c (watching told s)
 told_more told c s within = ap (λ (heard : List Told). watching_by s.id heard)
     (ap (map told_of) (drop-append-le s.since told (c ∷ []) within) ∙ map-append told_of (drop s.since told) (c ∷ [])) where
-  watching_by : ℕ → List Told → Watching
-  watching_by n heard = record { id = n; heard = heard }
+      watching_by : ℕ → List Told → Watching
+      watching_by n heard = record { id = n; heard = heard }
 
 pub seats_told : (told : List Splice) (c : Splice) (seats : List Seat) → AreSeats (length told) seats → map (watching (told ++ c ∷ [])) seats ≡ map (heard_more c) (map (watching told) seats)
 seats_told told c [] all = refl

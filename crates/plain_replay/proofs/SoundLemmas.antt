@@ -1,5 +1,5 @@
 -- The marks of a text stay marks of it, and not too many, whatever a call makes of them.
-use Rattle.std.proofs.Common.{◌≡◌, ℕ, ◌+◌, ◌-◌, ◌<◌, ◌≤◌, Bool, true, false, cond, List, [], ◌∷◌, ◌++◌, map, length, not, ◌==◌, nat_lt, refl, sym, ap, ◌∙◌, subst, arith, length-append}
+use Rattle.std.proofs.Common.{◌≡◌, ℕ, ◌+◌, ◌<◌, ◌≤◌, Bool, true, false, cond, List, [], ◌∷◌, map, length, not, ◌==◌, nat_lt, refl, sym, ap, ◌∙◌, subst, arith, length-append}
 use Rattle.std.specs.List.{All, filter}
 use Rattle.std.proofs.lemmas.Bool.Decides.{nat_tests}
 use Rattle.std.proofs.lemmas.List.{length-map}
@@ -9,9 +9,8 @@ use Rattle.points.specs.declared.point.Point.{Point}
 use Rattle.points.specs.declared.mark.Mark.{Mark}
 use Rattle.points.specs.declared.mark.Splice.{Splice}
 use Rattle.points.specs.declared.limits.TheConstants.{MAX_UNITS, MAX_MARKS, MAX_COORD}
-use Rattle.points.specs.Point.{traverse}
 use Rattle.points.specs.Text.{replaced}
-use Rattle.points.specs.Place.{point_at, extent, clip, clipped_offset}
+use Rattle.points.specs.Place.{point_at, clip, clipped_offset}
 use Rattle.points.specs.MarkText.{IsPointOf, IsMarkOf, splice_in}
 use Rattle.points.specs.MarkList.{MarkIsWithin, all_moved, with_mark, without_mark, made_exclusive, with_exclusive}
 use Rattle.points.proofs.ClipLemmas.{clipped_at}
@@ -59,8 +58,12 @@ length_by false m ms = refl
 
 filters_within : (id : ℕ) (ms : List Mark) → length (filter (λ m. nat_lt m.id id) ms) + length (filter (λ m. nat_lt id m.id) ms) ≤ length ms
 filters_within id [] = omega arith
-filters_within id (m ∷ ms) = omega (arith, filters_by id m (length ms) (length (filter (λ m. nat_lt m.id id) ms)) (length (filter (λ m. nat_lt id m.id) ms)) (nat_lt m.id id) (nat_lt id m.id) refl refl (filters_within id ms),
-    length_by (nat_lt m.id id) m (filter (λ m. nat_lt m.id id) ms), length_by (nat_lt id m.id) m (filter (λ m. nat_lt id m.id) ms))
+filters_within id (m ∷ ms) = omega (
+  arith,
+  filters_by id m (length ms) (length (filter (λ m. nat_lt m.id id) ms)) (length (filter (λ m. nat_lt id m.id) ms)) (nat_lt m.id id) (nat_lt id m.id) refl refl (filters_within id ms),
+  length_by (nat_lt m.id id) m (filter (λ m. nat_lt m.id id) ms),
+  length_by (nat_lt id m.id) m (filter (λ m. nat_lt id m.id) ms),
+)
 
 pub sound_with : (t : List ℕ) (ms : List Mark) (id : ℕ) (p q : Point) (exclusive : Bool) → length ms < MAX_MARKS → IsSound t ms
     → IsSound t (with_mark (record { id = id; start = clip t p; end = clip t q; exclusive = exclusive }) ms)

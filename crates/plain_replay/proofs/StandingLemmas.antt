@@ -1,16 +1,15 @@
 -- Steps that a text has behind it and before it: what an undo and a redo of them make of the text.
-use Rattle.std.proofs.Common.{◌≡◌, ℕ, zero, suc, ◌+◌, ◌-◌, ◌<◌, ◌≤◌, List, [], ◌∷◌, ◌++◌, length, take, drop, slice_index_or, Some, refl, sym, ap, ◌∙◌, subst, arith, append_assoc, length-append, length-drop, take-append-drop}
+use Rattle.std.proofs.Common.{◌≡◌, ℕ, zero, suc, ◌+◌, ◌<◌, ◌≤◌, List, [], ◌∷◌, ◌++◌, length, take, drop, slice_index_or, refl, sym, ap, ◌∙◌, subst, arith, append_assoc, length-append, take-append-drop}
 use Rattle.std.specs.Prelude.{Option, unwrap_or}
 use Rattle.std.proofs.lemmas.List.{take_at, drop_at, length-take-le, drop-drop}
-use Rattle.points.specs.declared.point.Point.{Point}
 use Rattle.points.specs.declared.limits.TheConstants.{MAX_UNITS, MAX_STEPS}
 use Rattle.points.specs.Text.{replaced}
 use Rattle.points.specs.Place.{point_at, offset_of}
 use Rattle.points.proofs.TextLemmas.{length-replaced}
 use Rattle.points.proofs.OffsetLemmas.{offset_of-at}
 use Rattle.points.proofs.ExtentParts.{point_at-replaced_before}
-use Rattle.machine.specs.Machine.{State, Change, Step, put, undone, redone, with_step}
-use Rattle.plain_replay.specs.Standing.{Makes, Leads, ArePast, AreFuture, HasSteps, CanPut, whole}
+use Rattle.machine.specs.Machine.{State, Change, Step, put, undone, redone}
+use Rattle.plain_replay.specs.Standing.{Makes, Leads, ArePast, AreFuture, HasSteps, CanPut}
 
 -- units that were replaced, put back
 pub replaced_back : (t old new : List ℕ) (i : ℕ) → i + length old ≤ length t → take (length old) (drop i t) ≡ old

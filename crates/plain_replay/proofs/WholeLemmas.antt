@@ -1,5 +1,5 @@
 -- What edits, undo and redo make of a text with its marks and its watchers doesn't hang on the steps behind it and before it.
-use Rattle.std.proofs.Common.{◌≡◌, ℕ, List, [], ◌∷◌, ◌++◌, length, Bool, true, false, cond, Option, Some, None, refl, sym, ap, ◌∙◌}
+use Rattle.std.proofs.Common.{◌≡◌, ℕ, List, [], ◌∷◌, length, Bool, true, false, cond, Option, Some, None, refl, ap, ◌∙◌}
 use Rattle.std.specs.Prelude.{◌==◌, ◌&&◌, nat_lt, option_map, option_and_then}
 use Rattle.points.specs.Text.{replaced}
 use Rattle.points.specs.Place.{span}

@@ -181,13 +181,7 @@ impl Body {
 }
 
 // The splice between a text and the changed one, where the new units of that end at `end`.
-fn splice_between(
-    units: &[u16],
-    changed: &[u16],
-    from: usize,
-    to: usize,
-    end: usize,
-) -> Splice
+fn splice_between(units: &[u16], changed: &[u16], from: usize, to: usize, end: usize) -> Splice
     requires order { from ≤ to }
     requires within { to ≤ length units.now }
     requires end { end ≤ length changed.now }

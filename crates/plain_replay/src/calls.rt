@@ -32,12 +32,7 @@ impl Plain {
     }
 
     /// Marks the clipped range.
-    pub(crate) fn mark(
-        &mut self,
-        id: u32,
-        range: Range,
-        exclusive: bool,
-    ) -> Result<Reply, NoMemory>
+    pub(crate) fn mark(&mut self, id: u32, range: Range, exclusive: bool) -> Result<Reply, NoMemory>
         requires { self.old.count < 2 ^ 57 }
         ensures ok { IfOk result (λ reply. (self.new, reply) ≡ replayed self.old (add_mark id range exclusive)) }
         ensures err { OnErr result (self.new ≡ self.old) }

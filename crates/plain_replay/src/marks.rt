@@ -60,7 +60,9 @@ pub(crate) fn with_exclusive(
 ) -> Result<Vec<Mark>, AllocError>
     ensures { IfOk result (λ v. v.items ≡ with_exclusive id exclusive marks.now) }
 {
-    let all = marks.iter().map(|mark| made_exclusive(*mark, id, exclusive));
+    let all = marks
+        .iter()
+        .map(|mark| made_exclusive(*mark, id, exclusive));
     all.collect(alloc)
 }
 
@@ -84,7 +86,10 @@ pub(crate) fn ids_where(
 ) -> Result<Vec<u32>, AllocError>
     ensures { IfOk result (λ ids. ids.items ≡ ids_where (finds how range.start range.end) marks.now) }
 {
-    let found = marks.iter().copied().filter(|mark| finds(how, range, *mark));
+    let found = marks
+        .iter()
+        .copied()
+        .filter(|mark| finds(how, range, *mark));
     found.map(|mark| mark.id).collect(alloc)
 }
 

@@ -79,11 +79,7 @@ fn none_made(body: &Body) -> Result<Progress, NoMemory>
 }
 
 /// One edit. It answers none where the text would be too long.
-pub(crate) fn member(
-    body: &Body,
-    range: Range,
-    text: &str,
-) -> Result<Option<Progress>, NoMemory>
+pub(crate) fn member(body: &Body, range: Range, text: &str) -> Result<Option<Progress>, NoMemory>
     requires { body.now.count < 2 ^ 57 }
     ensures { IfOk result (λ p. p ≡ member body.now (range, utf16_of text.now)) }
 {

@@ -1,4 +1,4 @@
-use Rattle.std.proofs.Common.{◌≡◌, ◌∙◌, ap, sym, ℕ, List, length, nat_lt}
+use Rattle.std.proofs.Common.{◌∙◌, ap, sym, ℕ, List, length, nat_lt}
 use Rattle.points.specs.declared.limits.TheConstants.{MAX_UNITS}
 use Rattle.points.specs.Text.{utf16_of, replaced}
 use Rattle.points.specs.Place.{clipped_offset}

@@ -1,5 +1,4 @@
 use Rattle.std.proofs.Common.{◌≡◌, ◌+◌, ◌∙◌, ap, sym, subst, Some, ℕ, List, map, arith}
-
 use Rattle.machine.specs.Machine.{State, Part, Progress, Batched, members}
 use Rattle.machine.specs.Answers.{reply_of, edit_of}
 use Rattle.plain_replay.specs.Standing.{Leads, Follows}
@@ -15,14 +14,14 @@ pub take_over-requires-clause-leads : goal.take_over-requires-clause-leads
 take_over-requires-clause-leads c =
     let some : Some c.in-Some.done ≡ members c.self.inside.body (map edit_of c.args.edits.now) = sym c.in-Some.is ∙ c.in_ok-members.ensures in
     let follows : Follows c.self.inside.body c.done.inside.made.items c.done.inside.body = subst (λ (g : Progress). Follows c.self.inside.body g.made g.state) (sym c.done.view_is)
-        (members_lead c.self.inside.body (map edit_of c.args.edits.now) c.in-Some.done c.count.ensures.sound.short some) in
+    (members_lead c.self.inside.body (map edit_of c.args.edits.now) c.in-Some.done c.count.ensures.sound.short some) in
     subst (λ (s : State). Leads s.text c.done.inside.made.items c.done.inside.body.text) c.self.view_is follows.leads
 
 pub take_over-requires-clause-count : goal.take_over-requires-clause-count
 take_over-requires-clause-count c =
     let some : Some c.in-Some.done ≡ members c.self.inside.body (map edit_of c.args.edits.now) = sym c.in-Some.is ∙ c.in_ok-members.ensures in
     let follows : Follows c.self.inside.body c.done.inside.made.items c.done.inside.body = subst (λ (g : Progress). Follows c.self.inside.body g.made g.state) (sym c.done.view_is)
-        (members_lead c.self.inside.body (map edit_of c.args.edits.now) c.in-Some.done c.count.ensures.sound.short some) in
+    (members_lead c.self.inside.body (map edit_of c.args.edits.now) c.in-Some.done c.count.ensures.sound.short some) in
     omega (arith, follows.count, ap (λ (s : State). s.count) c.self.view_is, c.requires)
 
 pub returns-clause-ok : goal.returns-clause-ok

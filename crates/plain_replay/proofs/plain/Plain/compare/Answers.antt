@@ -3,7 +3,6 @@ use Rattle.machine.specs.Machine.{State, Compared}
 use Rattle.points.specs.MarkList.{mark_with}
 use Rattle.plain_replay.proofs.CallLemmas.{same_pair, first_unknown, second_unknown, compared, numbered}
 use Rattle.points.specs.Marks.{mark_order}
-use Rattle.machine.specs.declared.reply.Reply.TheVariants as reply
 use Rattle.plain_replay.proofs.plain.Plain.compare.Goals as goal
 
 pub returns-in-None : goal.returns-in-None

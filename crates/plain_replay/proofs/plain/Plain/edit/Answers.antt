@@ -15,14 +15,14 @@ pub take_over-requires-clause-leads : goal.take_over-requires-clause-leads
 take_over-requires-clause-leads c =
     let some : Some c.in-Some.done ≡ member c.self.inside.body (c.args.range, utf16_of c.args.text.now) = sym c.in-Some.is ∙ c.in_ok-member.ensures in
     let follows : Follows c.self.inside.body c.done.inside.made.items c.done.inside.body = subst (λ (g : Progress). Follows c.self.inside.body g.made g.state) (sym c.done.view_is)
-        (member_leads c.self.inside.body (c.args.range, utf16_of c.args.text.now) c.in-Some.done c.count.ensures.sound.short some) in
+    (member_leads c.self.inside.body (c.args.range, utf16_of c.args.text.now) c.in-Some.done c.count.ensures.sound.short some) in
     subst (λ (s : State). Leads s.text c.done.inside.made.items c.done.inside.body.text) c.self.view_is follows.leads
 
 pub take_over-requires-clause-count : goal.take_over-requires-clause-count
 take_over-requires-clause-count c =
     let some : Some c.in-Some.done ≡ member c.self.inside.body (c.args.range, utf16_of c.args.text.now) = sym c.in-Some.is ∙ c.in_ok-member.ensures in
     let follows : Follows c.self.inside.body c.done.inside.made.items c.done.inside.body = subst (λ (g : Progress). Follows c.self.inside.body g.made g.state) (sym c.done.view_is)
-        (member_leads c.self.inside.body (c.args.range, utf16_of c.args.text.now) c.in-Some.done c.count.ensures.sound.short some) in
+    (member_leads c.self.inside.body (c.args.range, utf16_of c.args.text.now) c.in-Some.done c.count.ensures.sound.short some) in
     omega (arith, follows.count, ap (λ (s : State). s.count) c.self.view_is, c.requires)
 
 pub returns-clause-ok : goal.returns-clause-ok

@@ -1,4 +1,4 @@
-use Rattle.std.proofs.Common.{◌≡◌, ◌-◌, ◌∙◌, ap, ℕ, List, sym}
+use Rattle.std.proofs.Common.{◌≡◌, ◌-◌, ◌∙◌, ap, ℕ, List}
 use Rattle.points.specs.Place.{clipped_offset, span}
 use Rattle.machine.specs.Machine.{State, Shown}
 use Rattle.plain_replay.proofs.CallLemmas.{look_shows, shown_is, numbered}

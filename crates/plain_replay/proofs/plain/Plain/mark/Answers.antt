@@ -2,8 +2,7 @@ use Rattle.std.proofs.Common.{◌≡◌, ◌∙◌, ap, sym, subst, List, length
 use Rattle.machine.specs.Machine.{State}
 use Rattle.points.specs.declared.mark.Mark.{Mark}
 use Rattle.points.specs.declared.limits.TheConstants.{MAX_MARKS}
-use Rattle.points.specs.Place.{clip}
-use Rattle.points.specs.MarkList.{mark_with, with_mark}
+use Rattle.points.specs.MarkList.{mark_with}
 use Rattle.plain_replay.specs.Standing.{IsSound}
 use Rattle.plain_replay.proofs.SoundLemmas.{sound_with}
 use Rattle.plain_replay.proofs.CallLemmas.{same_pair, mark_taken, marks_full, mark_added, mark_is, full_by, room_by}

@@ -1,4 +1,4 @@
-use Rattle.std.proofs.Common.{◌≡◌, ◌<◌, ◌++◌, ◌∙◌, ap, sym, subst, ℕ, List, drop, take, length, slice_index_or, arith}
+use Rattle.std.proofs.Common.{◌≡◌, ◌<◌, ◌++◌, ◌∙◌, ap, sym, subst, List, take, length, slice_index_or, arith}
 use Rattle.machine.specs.Machine.{State, Step, Part, Batched, redone}
 use Rattle.machine.specs.Answers.{reply_of}
 use Rattle.plain_replay.specs.Standing.{HasSteps}

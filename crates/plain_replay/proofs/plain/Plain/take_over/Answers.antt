@@ -1,4 +1,4 @@
-use Rattle.std.proofs.Common.{◌≡◌, ◌==◌, ◌<◌, ◌∙◌, ap, sym, subst, List, [], ◌∷◌, take, length, arith}
+use Rattle.std.proofs.Common.{◌≡◌, ◌<◌, ◌∙◌, ap, sym, subst, List, ◌∷◌, take, length, arith}
 use Rattle.machine.specs.Machine.{State, Step, counted, with_step}
 use Rattle.points.specs.declared.limits.TheConstants.{MAX_STEPS}
 use Rattle.plain_replay.specs.Standing.{HasSteps, Leads, whole}

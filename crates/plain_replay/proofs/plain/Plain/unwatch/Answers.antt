@@ -1,5 +1,5 @@
-use Rattle.std.proofs.Common.{◌≡◌, ◌∙◌, ◌==◌, ap, ℕ, List, length, not}
-use Rattle.std.specs.Prelude.{Option, option_map}
+use Rattle.std.proofs.Common.{◌∙◌, ◌==◌, ap, ℕ, List, length, not}
+use Rattle.std.specs.Prelude.{option_map}
 use Rattle.std.specs.List.{filter}
 use Rattle.machine.specs.Machine.{State, Watching, watcher_with}
 use Rattle.machine.specs.declared.reply.Reply.TheVariants as reply

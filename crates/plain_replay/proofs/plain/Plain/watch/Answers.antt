@@ -1,5 +1,5 @@
 use Rattle.std.proofs.Common.{◌≡◌, ◌∙◌, ap, ℕ, List, length, arith}
-use Rattle.std.specs.Prelude.{Option, option_map}
+use Rattle.std.specs.Prelude.{option_map}
 use Rattle.machine.specs.Machine.{State, Watching, watcher_with, with_watcher}
 use Rattle.machine.specs.declared.reply.Reply.TheVariants as reply
 use Rattle.points.specs.declared.limits.TheConstants.{MAX_WATCHERS}

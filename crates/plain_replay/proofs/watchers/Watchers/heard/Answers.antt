@@ -1,4 +1,4 @@
-use Rattle.std.proofs.Common.{◌≡◌, ◌∙◌, ◌-◌, ap, Some, None, ℕ, List, find, ◌==◌, length, arith}
+use Rattle.std.proofs.Common.{◌≡◌, ◌∙◌, ◌-◌, ap, Some, None, ℕ, find, ◌==◌, length, arith}
 use Rattle.plain_replay.specs.declared.watchers.Seat.{Seat}
 use Rattle.plain_replay.proofs.SeatLemmas.{heard_is}
 use Rattle.plain_replay.proofs.watchers.Watchers.heard.Goals as goal

@@ -1,8 +1,7 @@
-use Rattle.std.proofs.Common.{◌≡◌, ◌∙◌, ap, length, arith}
+use Rattle.std.proofs.Common.{◌∙◌, ap, arith}
 use Rattle.plain_replay.specs.Seats.{with_seat}
 use Rattle.plain_replay.proofs.SeatLemmas.{with_is, are_with}
 use Rattle.plain_replay.proofs.watchers.Watchers.with.Goals as goal
-
 
 pub invariant_of-result : goal.invariant_of-result
 invariant_of-result c = are_with c.self.inside.told.items c.in_ok-told.told.items c.self.inside.seats.items c.in_ok-seats.seats.items c.args.id c.len-since.result
