@@ -5,4 +5,6 @@
 #[cfg(test)]
 mod machine_tests;
 #[cfg(test)]
+mod plain_replay_tests;
+#[cfg(test)]
 mod script_tests;

@@ -1,0 +1,258 @@
+//! The plain machine as running code: one session row by row. Each call stands behind a helper that says nothing of what
+//! it does, so that the tests stay cheap to prove.
+ghost use Rattle.std.specs.Prelude.{IsSome};
+ghost use Rattle.machine.specs.Answers.{call_of};
+
+use machine::{CallRefusal, Command, HitNumbers, How, Reply, ReplyPart, Text};
+use plain_replay::Plain;
+use points::{MarkOrder, Point, Range};
+use std::alloc::Global;
+use std::test::Fail;
+
+// A change on the first row: where it starts, where it ends before it and after it, and the marks that it hits.
+type Row = ([u32; 3], [u64; 4]);
+
+fn at(column: u32) -> Point {
+    Point { row: 0, column }
+}
+
+// The range of the first row between two columns in order.
+fn columns(from: u32, to: u32) -> Range {
+    if at(from) <= at(to) {
+        Range::new(at(from), at(to))
+    } else {
+        Range::new(at(to), at(to))
+    }
+}
+
+// The reply to a command.
+fn answer(plain: &mut Plain, command: &Command) -> Option<Reply>
+    requires { IsSome (call_of command.now) }
+{
+    if plain.count() < 10_000 {
+        plain.step(command).ok()
+    } else {
+        None
+    }
+}
+
+// What is said of a change in a reply.
+fn part(row: Row) -> ReplyPart {
+    let ([from, to, end], [touch, inside, overlap, surround]) = row;
+    ReplyPart {
+        end: at(end),
+        from: at(from),
+        hits: HitNumbers {
+            touch,
+            inside,
+            overlap,
+            surround,
+        },
+        to: at(to),
+    }
+}
+
+// Whether an edit of the units from one column up to another answers this.
+fn edits(plain: &mut Plain, alloc: Global, text: &str, row: Row) -> bool {
+    let range = columns(row.0[0], row.0[1]);
+    let Ok(text) = Text::from_str(alloc, text) else {
+        return false;
+    };
+    match answer(plain, &Command::Edit { range, text }) {
+        Some(
+            Reply::Edited {
+                at: _,
+                end,
+                from,
+                hits,
+                to,
+            },
+        ) => {
+            let told = ReplyPart {
+                end,
+                from,
+                hits,
+                to,
+            };
+            told == part(row)
+        }
+        _ => false,
+    }
+}
+
+// Whether a reply has one part, this one.
+fn is_part(reply: Option<Reply>, row: Row) -> bool {
+    match reply {
+        Some(Reply::Batched { at: _, edits }) => {
+            let edits = edits.as_slice();
+            edits.len() == 1 && edits[0] == part(row)
+        }
+        _ => false,
+    }
+}
+
+fn is_refused(reply: Option<Reply>, why: CallRefusal) -> bool {
+    match reply {
+        Some(Reply::Refused { at: _, no }) => no == why,
+        _ => false,
+    }
+}
+
+fn is_done(reply: Option<Reply>) -> bool {
+    matches!(reply, Some(Reply::Numbered { at: _ }))
+}
+
+fn mark(plain: &mut Plain, id: u32, from: u32, to: u32, exclusive: bool) -> Option<Reply> {
+    let range = columns(from, to);
+    answer(
+        plain,
+        &Command::Mark {
+            id,
+            range,
+            exclusive,
+        },
+    )
+}
+
+// Whether the mark stands between these columns.
+fn is_at(plain: &mut Plain, id: u32, from: u32, to: u32) -> bool {
+    match answer(plain, &Command::Range { id }) {
+        Some(
+            Reply::Range {
+                at: _,
+                exclusive: _,
+                range,
+            },
+        ) => range.start == at(from) && range.end == at(to),
+        _ => false,
+    }
+}
+
+// Whether one mark touches the column, the one of this id.
+fn finds(plain: &mut Plain, column: u32, id: u32) -> bool {
+    let how = How::Intersecting;
+    let range = columns(column, column);
+    match answer(plain, &Command::Marks { how, range }) {
+        Some(Reply::Marks { at: _, ids }) => {
+            let ids = ids.as_slice();
+            ids.len() == 1 && ids[0] == id
+        }
+        _ => false,
+    }
+}
+
+fn is_same(plain: &mut Plain, id: u32) -> bool {
+    match answer(plain, &Command::Compare { a: id, b: id }) {
+        Some(Reply::Order { at: _, order }) => order == MarkOrder::Same,
+        _ => false,
+    }
+}
+
+fn heard(plain: &mut Plain, id: u32) -> Option<u64> {
+    match answer(plain, &Command::Unwatch { id }) {
+        Some(Reply::Heard { at: _, heard }) => Some(heard),
+        _ => None,
+    }
+}
+
+// Whether the text has these units.
+fn reads(plain: &Plain, units: &[u16]) -> bool {
+    plain.text() == units
+}
+
+#[test]
+fn marks_on_hello(rt: HostRuntime) -> Result<(), Fail> {
+    let mut plain = Plain::start(rt.alloc(), "hello")?;
+    assert!(rt; is_done(mark(&mut plain, 1, 1, 3, false)));
+    assert!(rt; is_refused(mark(&mut plain, 1, 1, 3, false), CallRefusal::MarkTaken));
+    assert!(rt; edits(&mut plain, rt.alloc(), "X", ([3, 3, 4], [1, 0, 0, 0])));
+    assert!(rt; is_at(&mut plain, 1, 1, 4));
+    assert!(rt; finds(&mut plain, 4, 1));
+    assert!(rt; is_same(&mut plain, 1));
+    assert!(rt;
+        is_refused(
+            answer(&mut plain, &Command::Unmark { id: 9 }),
+            CallRefusal::MarkUnknown
+        )
+    );
+    assert!(rt; plain.count() == 7);
+    Ok(())
+}
+
+#[test]
+fn six_marks_around_an_insertion(rt: HostRuntime) -> Result<(), Fail> {
+    let mut plain = Plain::start(rt.alloc(), "aaaa")?;
+    for (id, from, to, exclusive) in [
+        (1, 2, 2, false),
+        (2, 2, 2, true),
+        (3, 2, 4, false),
+        (4, 2, 4, true),
+        (5, 0, 2, false),
+        (6, 0, 2, true),
+    ] {
+        assert!(rt; is_done(mark(&mut plain, id, from, to, exclusive)), "{id}");
+    }
+    assert!(rt; edits(&mut plain, rt.alloc(), "bbb", ([2, 2, 5], [6, 0, 0, 0])));
+    for (id, from, to) in [
+        (1, 2, 5),
+        (2, 5, 5),
+        (3, 2, 7),
+        (4, 5, 7),
+        (5, 0, 5),
+        (6, 0, 2),
+    ] {
+        assert!(rt; is_at(&mut plain, id, from, to), "{id}");
+    }
+    Ok(())
+}
+
+#[test]
+fn undo_of_a_carriage_return_before_a_line_feed(rt: HostRuntime) -> Result<(), Fail> {
+    let mut plain = Plain::start(rt.alloc(), "\n")?;
+    assert!(rt; edits(&mut plain, rt.alloc(), "\r", ([0, 0, 1], [0, 0, 0, 0])));
+    assert!(rt; reads(&plain, &[13, 10]));
+    assert!(rt;
+        is_part(
+            answer(&mut plain, &Command::Undo),
+            ([0, 1, 0], [0, 0, 0, 0])
+        )
+    );
+    assert!(rt; reads(&plain, &[10]));
+    assert!(rt; is_refused(answer(&mut plain, &Command::Undo), CallRefusal::Nothing));
+    assert!(rt;
+        is_part(
+            answer(&mut plain, &Command::Redo),
+            ([0, 0, 1], [0, 0, 0, 0])
+        )
+    );
+    assert!(rt; reads(&plain, &[13, 10]));
+    Ok(())
+}
+
+#[test]
+fn a_watcher_hears_each_change_once(rt: HostRuntime) -> Result<(), Fail> {
+    let mut plain = Plain::start(rt.alloc(), "ab")?;
+    assert!(rt; is_done(answer(&mut plain, &Command::Watch { id: 7 })));
+    assert!(rt;
+        is_refused(
+            answer(&mut plain, &Command::Watch { id: 7 }),
+            CallRefusal::WatchTaken
+        )
+    );
+    assert!(rt; edits(&mut plain, rt.alloc(), "x", ([0, 0, 1], [0, 0, 0, 0])));
+    assert!(rt; edits(&mut plain, rt.alloc(), "", ([0, 0, 0], [0, 0, 0, 0])));
+    assert!(rt;
+        is_part(
+            answer(&mut plain, &Command::Undo),
+            ([0, 1, 0], [0, 0, 0, 0])
+        )
+    );
+    assert!(rt; heard(&mut plain, 7) == Some(2));
+    assert!(rt;
+        is_refused(
+            answer(&mut plain, &Command::Unwatch { id: 7 }),
+            CallRefusal::WatchUnknown
+        )
+    );
+    Ok(())
+}

@@ -1,0 +1,8 @@
+use Rattle.std.proofs.Common.{◌==◌, ◌∙◌, rules, tests}
+use Rattle.std.proofs.lemmas.Iterator.{YieldsList-from_slice}
+use Rattle.std.proofs.lemmas.Iterator.Search.{find_from_yields_List}
+use Rattle.plain_replay.specs.declared.watchers.Seat.{Seat}
+use Rattle.plain_replay.proofs.watchers.seat_with.Goals as goal
+
+pub returns : goal.returns
+returns c = c.copied.ensures ∙ find_from_yields_List (λ (s : Seat). s.id == c.args.id) _ _ c.find.result c.find.ensures.ran (YieldsList-from_slice c.args.seats.now cc) (λ x b q k. search (rules, tests))
