@@ -1,0 +1,3 @@
+pub mod Unplaced
+pub mod Shelf
+pub mod Reading
