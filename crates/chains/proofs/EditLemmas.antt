@@ -55,7 +55,7 @@ pub slice_untagged : (a b : ℕ) (us : List ℕ) → slice_range (untagged us) a
 slice_untagged a b us = ap (take (b - a)) (drop-map (λ (u : ℕ). (u, None)) a us) ∙ take-map (λ (u : ℕ). (u, None)) (b - a) (drop a us)
 
 -- up to a, then up to b
-take_more_slice : {X : Type 0} (a b : ℕ) (x : List X) → a ≤ b → take b x ≡ take a x ++ slice_range x a b
+pub take_more_slice : {X : Type 0} (a b : ℕ) (x : List X) → a ≤ b → take b x ≡ take a x ++ slice_range x a b
 take_more_slice zero b x le = ap (λ (n : ℕ). take n x) (let e : b ≡ b - 0 = omega arith in e)
 take_more_slice {X} (suc a) zero x le = absurd (let z : ⊥ = omega (arith, le) in z)
 take_more_slice (suc a) (suc b) [] le = sym (take_nil (suc b - suc a))
@@ -346,7 +346,7 @@ follows_tagged : (i : ℕ) (us : List ℕ) (g : Tagged) → Follows (i + length 
 follows_tagged i [] g h = follows_weaker i (i + 0) g (omega arith) h
 follows_tagged i (u ∷ us) g h = (omega arith, follows_tagged (i + 1) us g (subst (λ (n : ℕ). Follows n g) (let e : i + suc (length us) ≡ i + 1 + length us = omega arith in e) h))
 
-follows_tags : (i : ℕ) (ps : List Piece) (tail : List ℕ) → Follows i (tag_of i ps tail)
+pub follows_tags : (i : ℕ) (ps : List Piece) (tail : List ℕ) → Follows i (tag_of i ps tail)
 follows_tags i [] tail = subst (Follows i) (append-nil (tagged_from i tail)) (follows_tagged i tail [] tt)
 follows_tags i (p ∷ ps) tail = let k : ℕ = i + length p.kept + length p.old in let g : Tagged = tag_of k ps tail in
     follows_tagged i p.kept (untagged p.new ++ g) (follows_untagged (i + length p.kept) p.new g (follows_weaker (i + length p.kept) k g (omega arith) (follows_tags k ps tail)))

@@ -57,11 +57,20 @@ overlays-append [] ys = refl
 overlays-append (None ∷ xs) ys = overlays-append xs ys
 overlays-append (Some h ∷ xs) ys = ap (λ (os : List Overlay). arc_value h.overlay ∷ os) (overlays-append xs ys)
 
--- one more layer is shared
-pub share_step : (old : List (Option Held)) (x first : Option Held) (rest : List (Option Held)) → overlays_of (x ∷ []) ≡ overlays_of (first ∷ [])
-    → overlays_of (old ++ x ∷ []) ++ overlays_of rest ≡ overlays_of old ++ overlays_of (first ∷ rest)
-share_step old x first rest same = ap (λ (os : List Overlay). os ++ overlays_of rest) (overlays-append old (x ∷ []) ∙ ap (λ (os : List Overlay). overlays_of old ++ os) same)
-    ∙ (append_assoc (overlays_of old) (overlays_of (first ∷ [])) (overlays_of rest) ∙ ap (λ (os : List Overlay). overlays_of old ++ os) (sym (overlays-append (first ∷ []) rest)))
+-- one more slot is shared
+pub share_step : (old shared all : List (Option Held)) (slot : Option Held) (rest : List (Option Held)) → overlays_of shared ≡ overlays_of old ++ overlays_of (slot ∷ []) → overlays_of all ≡ overlays_of shared ++ overlays_of rest
+    → overlays_of all ≡ overlays_of old ++ overlays_of (slot ∷ rest)
+share_step old shared all slot rest one more = more ∙ (ap (λ (os : List Overlay). os ++ overlays_of rest) one
+    ∙ (append_assoc (overlays_of old) (overlays_of (slot ∷ [])) (overlays_of rest) ∙ ap (λ (os : List Overlay). overlays_of old ++ os) (sym (overlays-append (slot ∷ []) rest))))
+
+-- how many layers there are in slots
+pub few_overlays : (hs : List (Option Held)) → length (overlays_of hs) ≤ length hs
+few_overlays [] = omega arith
+few_overlays (None ∷ hs) = omega (arith, few_overlays hs)
+few_overlays (Some h ∷ hs) = omega (arith, few_overlays hs)
+
+pub slots_split : (slot : Option Held) (rest : List (Option Held)) → length (overlays_of (slot ∷ rest)) ≡ length (overlays_of (slot ∷ [])) + length (overlays_of rest)
+slots_split slot rest = ap length (overlays-append (slot ∷ []) rest) ∙ length-append (overlays_of (slot ∷ [])) (overlays_of rest)
 
 -- the newest layer knows the end of the text
 pub end_of_newest : (base : List ℕ) (os : List Overlay) (o : Overlay) (below : List Overlay) → os ≡ o ∷ below → AreLaid base os → (o.end ≡ end_of (text_of_all base os)) × (o.end.offset ≤ MAX_UNITS)

@@ -10,3 +10,6 @@ pub mod ChainLemmas
 pub mod SizeLemmas
 pub mod SpotLemmas
 pub mod WalkLemmas
+pub mod ChangeLemmas
+pub mod StackLemmas
+pub mod FlattenLemmas

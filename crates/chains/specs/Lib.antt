@@ -6,3 +6,4 @@ pub mod Weaving
 pub mod Walking
 pub mod Chain
 pub mod LeadsDown
+pub mod Changes

@@ -58,29 +58,32 @@ pub(crate) fn share(
     shared: &mut ArrayVec<Option<Held>, 8>,
     held: &[Option<Held>],
 ) -> Result<(), NoMemory>
-    requires { array_vec_len shared.old + length held.now ≤ 8 }
+    requires { array_vec_len shared.old + length (overlays_of held.now) ≤ 8 }
     ensures { OnOk result (overlays_of shared.new.items ≡ overlays_of shared.old.items ++ overlays_of held.now) }
 {
     match held.split_first() {
         None => Ok(()),
         Some((first, rest)) => {
-            let layer = shared_layer(first)?;
-            shared.push(layer);
+            share_slot(shared, first)?;
             share(shared, rest)
         }
     }
 }
 
-// The same layer, with a holder more.
-fn shared_layer(layer: &Option<Held>) -> Result<Option<Held>, NoMemory>
-    ensures { IfOk result (λ shared. overlays_of (shared ∷ []) ≡ overlays_of (layer.now ∷ [])) }
+// Puts the layer of a slot, where it has one, behind those that `shared` has.
+fn share_slot(
+    shared: &mut ArrayVec<Option<Held>, 8>,
+    slot: &Option<Held>,
+) -> Result<(), NoMemory>
+    requires { array_vec_len shared.old + length (overlays_of (slot.now ∷ [])) ≤ 8 }
+    ensures layers { OnOk result (overlays_of shared.new.items ≡ overlays_of shared.old.items ++ overlays_of (slot.now ∷ [])) }
+    ensures room { OnOk result (array_vec_len shared.new ≡ array_vec_len shared.old + length (overlays_of (slot.now ∷ []))) }
 {
-    match layer {
-        None => Ok(None),
-        Some(held) => Ok(Some(Held {
-            overlay: Arc::try_clone(&held.overlay)?,
-        })),
+    if let Some(held) = slot {
+        let overlay = Arc::try_clone(&held.overlay)?;
+        shared.push(Some(Held { overlay }));
     }
+    Ok(())
 }
 
 #[tactic(auto, using(crate::proofs::LaidLemmas::end_of_newest, crate::proofs::LaidLemmas::end_of_base))]

@@ -9,13 +9,16 @@
 #![tactic(auto)]
 
 mod chain;
+mod change;
 mod edit;
+mod flatten;
 mod held;
 pub mod laws;
 mod lookup;
 mod measure;
 mod overlay;
 mod pieces;
+mod shape;
 mod size;
 mod spot;
 mod stand;
