@@ -13,3 +13,4 @@ pub mod WalkLemmas
 pub mod ChangeLemmas
 pub mod StackLemmas
 pub mod FlattenLemmas
+pub mod LineLemmas

@@ -7,3 +7,4 @@ pub mod Walking
 pub mod Chain
 pub mod LeadsDown
 pub mod Changes
+pub mod Lines

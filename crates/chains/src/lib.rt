@@ -10,15 +10,19 @@
 
 mod chain;
 mod change;
+mod clip;
 mod edit;
 mod flatten;
 mod held;
 pub mod laws;
+mod line;
 mod lookup;
 mod measure;
 mod overlay;
 mod pieces;
 mod shape;
+mod ranges;
+mod rows;
 mod size;
 mod spot;
 mod stand;
