@@ -10,6 +10,8 @@ pub mod ChainLemmas
 pub mod SizeLemmas
 pub mod SpotLemmas
 pub mod WalkLemmas
+pub mod FlattenLemmas
+pub mod SquashLemmas
 pub mod ChangeLemmas
 pub mod StackLemmas
 pub mod FlattenLemmas

@@ -3,6 +3,7 @@ pub mod Overlay
 pub mod Stand
 pub mod Spots
 pub mod Weaving
+pub mod Squash
 pub mod Walking
 pub mod Chain
 pub mod LeadsDown

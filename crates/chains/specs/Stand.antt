@@ -17,3 +17,8 @@ StandsIn s o at to (Kept from len) = (0 < len) × (at + len ≤ to) × (from + l
 abbrev pub tags_at : List ℕ → Option ℕ → Tagged
 tags_at us None = untagged us
 tags_at us (Some k) = tagged_from k us
+
+-- they are the base's own units there
+abbrev pub StandsAt : List ℕ → List ℕ → Option ℕ → Type 0
+StandsAt base us None = Unit {0}
+StandsAt base us (Some k) = (k + length us ≤ length base) × (us ≡ slice_range base k (k + length us))

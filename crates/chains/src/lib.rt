@@ -25,6 +25,7 @@ mod ranges;
 mod rows;
 mod size;
 mod spot;
+mod squash;
 mod stand;
 mod stretch;
 mod weaver;

@@ -2,7 +2,7 @@
 ghost use Rattle.std.specs.Prelude.{◌≡◌, ◌+◌, ◌<◌, ◌≤◌, length, slice_range};
 ghost use Rattle.chains.specs.Layered.{tags_since};
 ghost use Rattle.chains.specs.Overlay.{overlays_of, tags_above, text_of_all, AreLaid};
-ghost use Rattle.chains.specs.Stand.{tags_at};
+ghost use Rattle.chains.specs.Stand.{tags_at, StandsAt};
 
 use crate::held::{Held, top_of};
 use crate::stand::{Stand, standing};
@@ -28,6 +28,7 @@ pub(crate) fn stretch_at<'a>(
     ensures some { 0 < length result.part }
     ensures within { at + length result.part ≤ to }
     ensures tags { slice_range (tags_since base.entry.now (tags_above base.entry.now (overlays_of held.entry.now))) at (at + length result.part) ≡ tags_at result.part result.base }
+    ensures stands { StandsAt base.entry.now result.part result.base }
 {
     match top_of(held) {
         None => Stretch {
