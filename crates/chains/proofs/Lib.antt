@@ -14,5 +14,4 @@ pub mod FlattenLemmas
 pub mod SquashLemmas
 pub mod ChangeLemmas
 pub mod StackLemmas
-pub mod FlattenLemmas
 pub mod LineLemmas

@@ -1,2 +1,3 @@
 pub mod GroundLemmas
 pub mod ShelfLemmas
+pub mod BuildLemmas

@@ -9,13 +9,16 @@
 //! - A [`Reader`] shares the layers of one place, and reads their text whatever becomes of the place.
 #![tactic(auto)]
 
+mod build;
 mod ground;
 mod new_layer;
 mod reader;
+mod shape;
 mod shelf;
 mod versioned;
 
 pub use new_layer::NewLayer;
 pub use reader::Reader;
+pub use shape::Shape;
 pub use shelf::{Shelf, places_are_sound};
 pub use versioned::Versioned;

@@ -1,10 +1,10 @@
-ghost use Rattle.std.specs.Prelude.{◌≡◌, ◌≤◌, length, string_bytes, IfOk};
+ghost use Rattle.std.specs.Prelude.{◌≡◌, ◌<◌, ◌≤◌, ◌↔◌, ◌++◌, length, slice_range, string_bytes, IfOk, IfSome, IsNone, OnOk, OnErr};
 ghost use Rattle.points.specs.Text.{text_of};
-ghost use Rattle.points.specs.Place.{extent, point_at};
+ghost use Rattle.points.specs.Place.{extent, point_at, line_of, clip, clipped_offset};
 ghost use Rattle.points.specs.declared.limits.TheConstants.{MAX_UNITS};
 
-use chains::Chain;
-use points::{NoMemory, Point};
+use chains::{Chain, Pieces};
+use points::{NoMemory, Point, Range, Units};
 use std::alloc::Global;
 use std::marker::Model;
 
@@ -38,7 +38,7 @@ impl Reader {
     pub fn extent(&self) -> Point
         ensures { result ≡ extent self.now.text }
     {
-        self.layers.end().point
+        self.layers.extent()
     }
 
     /// The point at an offset.
@@ -47,6 +47,39 @@ impl Reader {
         ensures { result ≡ point_at self.now.text offset }
     {
         self.layers.point_at(offset)
+    }
+
+    /// The point that a point is clipped to: outside line endings and surrogate pairs, and not past the end.
+    pub fn clip(&self, point: Point) -> Point
+        ensures { result ≡ clip self.now.text point }
+    {
+        self.layers.clip(point)
+    }
+
+    /// The range of a row without its ending, where the text has the row.
+    pub fn line_range(&self, row: u32) -> Option<Range>
+        ensures outside { IsNone result ↔ ((extent self.now.text).row < row) }
+        ensures start { IfSome result (λ range. range.start ≡ record { row = row; column = 0 }) }
+        ensures end { IfSome result (λ range. range.end ≡ record { row = row; column = length (line_of self.now.text row) }) }
+    {
+        self.layers.line_range(row)
+    }
+
+    /// The units between the clipped ends of a range, one stretch behind the other, lent.
+    pub fn pieces(&self, range: Range) -> Pieces<'_>
+        ensures { result ≡ slice_range self.entry.now.text (clipped_offset self.entry.now.text range.start)
+            (clipped_offset self.entry.now.text range.end) }
+    {
+        self.layers.pieces_in(range)
+    }
+
+    /// Puts the units between the clipped ends of a range at the end of `into`. A refusal leaves it as it was.
+    pub fn units(&self, range: Range, into: &mut Units) -> Result<(), NoMemory>
+        ensures ok { OnOk result (into.new ≡ into.old ++ slice_range self.now.text (clipped_offset self.now.text range.start)
+            (clipped_offset self.now.text range.end)) }
+        ensures err { OnErr result (into.new ≡ into.old) }
+    {
+        self.layers.units_in(self.alloc, range, into)
     }
 
     /// The version of the text.
