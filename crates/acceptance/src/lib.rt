@@ -3,6 +3,8 @@
 #![tactic(auto)]
 
 #[cfg(test)]
+mod chain_clips_tests;
+#[cfg(test)]
 mod chain_edits_tests;
 #[cfg(test)]
 mod chains_tests;

@@ -76,8 +76,13 @@ line_whole t r in_text some_unit no_cr = ap (λ (b : Bool). cond (ltb r (feeds t
 
 -- the end of a line before its line feed, with a carriage return there or without
 pub cr_ends : (t : List ℕ) (r feed u : ℕ) → r < feeds t → feed ≡ row_start t r + length (row_of t r) → row_start t r < feed → u ≡ get_or t (feed - 1) 0 → u ≡ CR → feed - 1 ≡ row_start t r + length (line_of t r)
-cr_ends t r feed u in_text feed_is some_unit u_is cr = omega (arith, feed_is, some_unit, line_cr t r in_text (omega (arith, feed_is, some_unit))
-    (ap (λ (k : ℕ). get_or t (k - 1) 0) (sym feed_is) ∙ (sym u_is ∙ cr)))
+cr_ends t r feed u in_text feed_is some_unit u_is cr = omega (
+  arith,
+  feed_is,
+  some_unit,
+  line_cr t r in_text (omega (arith, feed_is, some_unit))
+      (ap (λ (k : ℕ). get_or t (k - 1) 0) (sym feed_is) ∙ (sym u_is ∙ cr)),
+)
 
 pub none_ends : (t : List ℕ) (r feed : ℕ) → feed ≡ row_start t r + length (row_of t r) → feed ≤ row_start t r → feed ≡ row_start t r + length (line_of t r)
 none_ends t r feed feed_is no_unit = omega (arith, feed_is, no_unit, line_none t r (omega (arith, feed_is, no_unit)))

@@ -26,12 +26,7 @@ impl Chain {
     }
 
     /// Puts the units between the clipped ends of a range at the end of `into`. A refusal leaves it as it was.
-    pub fn units_in(
-        &self,
-        alloc: Global,
-        range: Range,
-        into: &mut Units,
-    ) -> Result<(), NoMemory>
+    pub fn units_in(&self, alloc: Global, range: Range, into: &mut Units) -> Result<(), NoMemory>
         ensures ok { OnOk result (into.new ≡ into.old ++ slice_range (whole_text self.now) (clipped_offset (whole_text self.now) range.start)
             (clipped_offset (whole_text self.now) range.end)) }
         ensures err { OnErr result (into.new ≡ into.old) }
