@@ -8,7 +8,7 @@ use std::alloc::Global;
 use std::test::Fail;
 
 // The text after an edit.
-fn edited(
+pub(crate) fn edited(
     alloc: Global,
     chain: &Chain,
     from: usize,
@@ -25,7 +25,7 @@ fn edited(
 }
 
 // A text of this unit alone, with no layer above it.
-fn text_of_unit(alloc: Global, unit: u16, len: u32) -> Result<Chain, Fail> {
+pub(crate) fn text_of_unit(alloc: Global, unit: u16, len: u32) -> Result<Chain, Fail> {
     let mut units = Units::new(alloc);
     for _ in 0..len {
         units.append(&[unit])?;
@@ -35,7 +35,12 @@ fn text_of_unit(alloc: Global, unit: u16, len: u32) -> Result<Chain, Fail> {
 }
 
 // The text after insertions of one unit, three units apart: those from the number `first` on, up to `end`.
-fn sprinkled(alloc: Global, mut chain: Chain, first: u32, end: u32) -> Result<Chain, Fail> {
+pub(crate) fn sprinkled(
+    alloc: Global,
+    mut chain: Chain,
+    first: u32,
+    end: u32,
+) -> Result<Chain, Fail> {
     for number in first..end {
         let at = number as usize * 4 + 3;
         chain = edited(alloc, &chain, at, at, &[120])?;
@@ -44,16 +49,20 @@ fn sprinkled(alloc: Global, mut chain: Chain, first: u32, end: u32) -> Result<Ch
 }
 
 // Whether the layers have these changes and units.
-fn has_sizes(alloc: Global, chain: &Chain, expected: &[(u32, u64)]) -> Result<bool, Fail> {
+pub(crate) fn has_sizes(
+    alloc: Global,
+    chain: &Chain,
+    expected: &[(u32, u64)],
+) -> Result<bool, Fail> {
     let sizes = chain.sizes(alloc)?;
-    Ok(sizes.len() == expected.len()
-        && sizes
-            .iter()
-            .zip(expected)
-            .all(|(size, (changes, units))| size.changes == *changes && size.units == *units))
+    Ok(
+        sizes.len() == expected.len()
+            && sizes.iter().zip(expected).all(|(size, (changes, units))| size.changes == *changes
+                && size.units == *units),
+    )
 }
 
-fn has_units(alloc: Global, chain: &Chain, expected: &[u16]) -> Result<bool, Fail> {
+pub(crate) fn has_units(alloc: Global, chain: &Chain, expected: &[u16]) -> Result<bool, Fail> {
     let mut units = Units::new(alloc);
     chain.units(alloc, 0, chain.len(), &mut units)?;
     Ok(units.as_slice() == expected)

@@ -35,6 +35,8 @@ mod splay_tests;
 #[cfg(test)]
 mod splice_runs_tests;
 #[cfg(test)]
+mod squash_tests;
+#[cfg(test)]
 mod tagged_runs;
 #[cfg(test)]
 mod watch_tests;

@@ -1,5 +1,5 @@
 -- All layers above the base as one: offsets that rise through the layers, and how much is put in.
-use Rattle.std.proofs.Common.{◌≡◌, ℕ, zero, suc, ◌+◌, ◌-◌, ◌<◌, ◌≤◌, ◌==◌, ◌&&◌, Bool, true, false, cond, List, [], ◌∷◌, ◌++◌, length, take, drop, slice_range, slice_get, option_and_then, nat_le, Option, Some, None, refl, sym, ap, ◌∙◌, subst, arith, append_assoc, length-append, take-append-drop}
+use Rattle.std.proofs.Common.{◌≡◌, ℕ, zero, suc, ◌+◌, ◌-◌, ◌<◌, ◌≤◌, ◌==◌, ◌&&◌, Bool, true, false, cond, List, [], ◌∷◌, ◌++◌, length, take, drop, slice_range, slice_get, option_and_then, nat_le, Option, Some, None, refl, sym, ap, ◌∙◌, subst, arith, length-append, take-append-drop}
 use Rattle.std.specs.List.{sum_by}
 use Rattle.std.proofs.lemmas.List.{drop-drop, drop_all, length-take-le}
 use Rattle.std.proofs.lemmas.List.Sums.{sum_by-append, sum_by-cons}
@@ -8,13 +8,13 @@ use Rattle.points.specs.declared.point.Point.{Point}
 use Rattle.points.specs.Place.{extent, point_at}
 use Rattle.points.specs.declared.limits.TheConstants.{MAX_UNITS}
 use Rattle.patch.specs.Hunk.{Hunk, hunk_size}
-use Rattle.patch.specs.Tagged.{Tagged, tagged_from, untagged, units_of, gap, gaps_from, gaps}
+use Rattle.patch.specs.Tagged.{Tagged, tagged_from, untagged, gap, gaps_from, gaps}
 use Rattle.patch.proofs.Pieces.{Piece, old_of, tag_of}
 use Rattle.chains.specs.declared.spot.Spot.{Spot}
 use Rattle.chains.specs.declared.overlay.Overlay.{Overlay}
 use Rattle.chains.specs.declared.weaver.Weaver.{Weaver}
 use Rattle.chains.specs.declared.size.LayerSize.{LayerSize}
-use Rattle.chains.specs.Layered.{Layered, retagged, tags_since, size_of, is_within, on_base, whole_text, squashed}
+use Rattle.chains.specs.Layered.{retagged, tags_since, size_of, is_within}
 use Rattle.chains.specs.Overlay.{AreLaid, IsLaid, end_of, puts_of, tags_of, tags_above, text_of_all}
 use Rattle.chains.specs.Spots.{spot_in}
 use Rattle.chains.specs.Stand.{StandsAt, tags_at}
@@ -220,14 +220,6 @@ module _ (base us : List ℕ) (k : ℕ) (from to : Spot) (stands : StandsAt base
 
 pub end_made : (t : List ℕ) (n : ℕ) (p : Point) → n ≡ length t → p ≡ extent t → spot_with n p ≡ end_of t
 end_made t n p at is = ap (λ (m : ℕ). spot_with m p) at ∙ ap (spot_with (length t)) is
-
--- what a squash is, by its layer or the lack of one
-pub squashed_layer : (v : Layered) (o : Overlay) → IsSquash v.base (tags_since v.base v.above) (Some o) → on_base v.base (tags_of v.base o ∷ []) ≡ squashed v
-squashed_layer v o h = ap (λ (g : Tagged). on_base v.base (g ∷ [])) h.1
-    ∙ sym (ap (λ (b : Bool). cond b (on_base v.base (tags_since v.base v.above ∷ [])) (on_base (whole_text v) [])) h.2)
-
-pub squashed_base : (v : Layered) → IsSquash v.base (tags_since v.base v.above) None → on_base (whole_text v) [] ≡ squashed v
-squashed_base v h = sym (ap (λ (b : Bool). cond b (on_base v.base (tags_since v.base v.above ∷ [])) (on_base (whole_text v) [])) h)
 
 -- a finished layer, by its size
 within_both : (a b : ℕ) → a ≤ 512 → b ≤ 65536 → (nat_le a 512 && nat_le b 65536) ≡ true

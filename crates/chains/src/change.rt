@@ -35,8 +35,8 @@ fn joins_newest(held: &[Option<Held>]) -> bool
     }
 }
 
-// A text of these layers: the newest, and those below it, which are shared.
-fn stacked(
+/// A text of these layers: the newest, and those below it, which are shared.
+pub(crate) fn stacked(
     alloc: Global,
     base: &Arc<LineText, Global>,
     newest: Overlay,

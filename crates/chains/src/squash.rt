@@ -3,7 +3,7 @@
 //! The walk goes over the stretches of the newest text. A weaver keeps those that stand in the base, and
 //! puts in the others, whichever layer has them. It gives up before it has put in more units than a squash
 //! may have, so a large text that an edit put in isn't copied for nothing.
-ghost use Rattle.std.specs.Prelude.{◌≡◌, ◌+◌, ◌<◌, ◌≤◌, ◌++◌, [], ◌∷◌, ℕ, IfOk, OnOk, List, Option, length, true, false};
+ghost use Rattle.std.specs.Prelude.{◌≡◌, ◌++◌, [], ◌∷◌, ℕ, IfOk, OnOk, List, true, false};
 ghost use Rattle.patch.specs.Tagged.{Tagged};
 ghost use Rattle.chains.specs.Layered.{on_base, squashed, tags_since, is_within, size_of};
 ghost use Rattle.chains.specs.Overlay.{overlays_of, tags_above, tags_of, end_of, AreLaid, IsLaid};
@@ -12,17 +12,16 @@ ghost use Rattle.chains.specs.Squash.{IsSquash, CanWeaveStretch};
 ghost use Rattle.chains.specs.Weaving.{Weaves};
 
 use crate::chain::Chain;
+use crate::change::stacked;
 use crate::held::{Held, end_above};
 use crate::lookup::spot_above;
 use crate::overlay::Overlay;
 use crate::spot::{Spot, spot_in};
 use crate::stretch::{Stretch, stretch_at};
 use crate::weaver::Weaver;
-use arrayvec::ArrayVec;
 use line_text::LineText;
 use points::{NoMemory, Point};
 use std::alloc::Global;
-use std::sync::Arc;
 
 // How many changes and units a squash may have; past either it becomes a base.
 const MOST_CHANGES: u32 = 512;
@@ -53,13 +52,7 @@ impl Chain {
         requires { IsLaid self.now.base layer }
         ensures { IfOk result (λ made. made ≡ on_base self.now.base (tags_of self.now.base layer ∷ [])) }
     {
-        let overlay = Arc::new(alloc, layer)?;
-        let mut above = ArrayVec::new();
-        above.push(Some(Held { overlay }));
-        Ok(Chain {
-            base: Arc::try_clone(&self.base)?,
-            above,
-        })
+        stacked(alloc, &self.base, layer, &[])
     }
 }
 

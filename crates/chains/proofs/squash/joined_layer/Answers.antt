@@ -1,5 +1,4 @@
-use Rattle.std.proofs.Common.{◌≡◌, ℕ, ◌+◌, ◌≤◌, ◌++◌, [], List, length, drop, Option, refl, sym, ap, ◌∙◌, subst, arith}
-use Rattle.std.proofs.lemmas.List.{drop_all}
+use Rattle.std.proofs.Common.{◌≡◌, ℕ, ◌+◌, [], List, length, drop, Option, refl, sym, ap, ◌∙◌, subst, arith}
 use Rattle.std.proofs.lemmas.Result.{IfOk-weaker}
 use Rattle.patch.specs.Tagged.{Tagged}
 use Rattle.chains.specs.declared.spot.Spot.{Spot}
@@ -55,6 +54,7 @@ finish_small-requires c = let base = c.args.base.now in let os = overlays_of c.a
 pub returns : goal.returns
 returns c = let base = c.args.base.now in let os = overlays_of c.args.held.now in
     let whole : Tagged = tags_since base (tags_above base os) in
-    IfOk-weaker c.finish_small.result _ (IsSquash base whole) (λ made finishes. finishes base whole
+    let below : Spot = record { offset = c.len.result; point = c.extent.result } in
+    IfOk-weaker c.finish_small.result (λ (made : Option Overlay). (b : List ℕ) → (g : Tagged) → below ≡ end_of b → Weaves b g [] c.stretches.weaver → IsSquash b g made) (IsSquash base whole) (λ made finishes. finishes base whole
     (end_made base c.len.result c.extent.result c.len.ensures.value c.extent.ensures)
     (weaves_end base os c.stretches.at.offset c.stretches.weaver (omega (arith, c.stretches-test.false, ap (λ (x : Spot). x.offset) c.end_above-end.ensures.value)) c.stretches.invariant.weaves)) c.finish_small.ensures

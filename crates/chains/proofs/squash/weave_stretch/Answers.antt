@@ -1,8 +1,8 @@
-use Rattle.std.proofs.Common.{◌≡◌, ℕ, ◌+◌, ◌++◌, take, Option, Some, subst, ap, ◌∙◌}
+use Rattle.std.proofs.Common.{ℕ, ◌+◌, ◌++◌, take, Option, Some, subst, ap, ◌∙◌}
 use Rattle.std.proofs.lemmas.Result.{on_ok_weaker}
 use Rattle.chains.specs.Spots.{spot_in}
 use Rattle.chains.specs.Stand.{StandsAt, tags_at}
-use Rattle.chains.specs.Weaving.{Weaves, IsStretch}
+use Rattle.chains.specs.Weaving.{Weaves}
 use Rattle.chains.proofs.SquashLemmas.{kept_stretch, kept_weaves}
 use Rattle.chains.proofs.squash.weave_stretch.Goals as goal
 
