@@ -1,21 +1,21 @@
 -- How deep new layers are, and what can be replaced for a change.
-use Rattle.std.proofs.Common.{◌≡◌, ℕ, ◌+◌, ◌-◌, ◌<◌, ◌≤◌, Bool, true, false, List, [], ◌∷◌, ◌++◌, length, refl, sym, ap, subst, ◌∙◌, arith, All, Contains}
+use Rattle.std.proofs.Common.{◌≡◌, ℕ, ◌+◌, ◌-◌, ◌≤◌, Bool, true, false, List, [], ◌∷◌, length, sym, ap, ◌∙◌, arith}
 use Rattle.std.specs.Prelude.{nat_lt, if◌then◌else◌}
 use Rattle.std.proofs.lemmas.List.Elements.{All-contains}
 use Rattle.points.specs.Text.{replaced}
 use Rattle.points.specs.Place.{point_at}
+use Rattle.points.specs.declared.point.Point.{Point}
 use Rattle.points.specs.declared.limits.TheConstants.{MAX_UNITS}
 use Rattle.points.proofs.TextLemmas.{length-replaced}
 use Rattle.patch.specs.Hunk.{Hunk}
 use Rattle.patch.specs.Tagged.{Tagged, tagged, units_of, run}
-use Rattle.places.specs.Placed.{top_id}
 use Rattle.places.specs.Table.{IsPlaced, IsTable}
 use Rattle.chains.specs.declared.spot.Spot.{Spot}
 use Rattle.chains.specs.Spots.{spot_in}
 use Rattle.chains.specs.Layered.{Edit, Layered, text_above, on_base, depth_of, size_of, is_small, is_within, with_layer, changed_above, after_change, squashed, tags_since, whole_text}
 use Rattle.chains.specs.Changes.{CanReplace}
 use Rattle.layers.specs.Shelf.{Shelved, HasDepths, top_layers}
-use Rattle.layers.specs.Building.{AreSpots, StandsAt, CanChange}
+use Rattle.layers.specs.Building.{AreSpots, CanChange, edit_at}
 use Rattle.layers.proofs.GroundLemmas.{top_found}
 use Rattle.layers.proofs.ShelfLemmas.{top_depth}
 
@@ -66,3 +66,13 @@ change_replaces t h can from to a b =
     let start : from.offset ≡ can.at = ap (λ s. s.offset) a in
     let end : to.offset ≡ can.at + length h.old_text = ap (λ s. s.offset) b in
     can_replace t from to h.new_text at (omega (arith, long_replaced t from to h.new_text at, can.short))
+
+-- ---- the places of a change
+pub found_spot : (t t' : List ℕ) → t' ≡ t → (p q : Point) → p ≡ q → (spot : Spot) → ((i : ℕ) → i ≤ length t' → point_at t' i ≡ p → spot ≡ spot_in t' i) → (i : ℕ) → i ≤ length t → point_at t i ≡ q → spot ≡ spot_in t i
+found_spot t t' e p q f spot h i within at = h i (omega (arith, ap length e)) (ap (λ s. point_at s i) e ∙ (at ∙ sym f)) ∙ ap (λ s. spot_in s i) e
+
+pub same_edit : (t : List ℕ) (h : Hunk) (i : ℕ) (from to : Spot) (put : List ℕ) → from ≡ spot_in t i → to ≡ spot_in t (i + length h.old_text) → put ≡ h.new_text → (es : List Edit) → es ≡ (from.offset, to.offset, put) ∷ [] → es ≡ edit_at i h ∷ []
+same_edit t h i from to put a b p es e =
+    let start : from.offset ≡ i = ap (λ s. s.offset) a in
+    let end : to.offset ≡ i + length h.old_text = ap (λ s. s.offset) b in
+    cc

@@ -1,17 +1,17 @@
 -- What a new layer stands on is live, and one less deep.
-use Rattle.std.proofs.Common.{◌≡◌, ℕ, zero, suc, ◌+◌, ◌<◌, ◌≤◌, Bool, true, false, cond, [], ◌∷◌, Option, Some, None, refl, sym, ap, subst, ◌∙◌, arith, All, Contains, add-one}
-use Rattle.std.specs.Prelude.{find, nat_lt, ◌==◌, IfSome, IsTrue, MatchOption}
+use Rattle.std.proofs.Common.{◌≡◌, ℕ, zero, suc, ◌+◌, ◌<◌, ◌≤◌, Bool, true, false, cond, [], Option, Some, None, refl, sym, ap, subst, ◌∙◌, arith, Contains}
+use Rattle.std.specs.Prelude.{find, nat_lt, ◌==◌, IfSome, IsTrue}
 use Rattle.std.proofs.lemmas.Bool.Decides.{nat_tests}
 use Rattle.std.proofs.lemmas.List.Elements.{All-contains}
 use Rattle.places.specs.declared.placed.Placed.{Placed}
 use Rattle.places.specs.Placed.{placed_at, is_live, parent_of, depth_on, top_id, chain_of}
-use Rattle.places.specs.Table.{IsPlaced, IsOver, StandsIn, IsTable}
+use Rattle.places.specs.Table.{IsPlaced, StandsIn, IsTable}
 use Rattle.places.proofs.FindLemmas.{found_all}
 use Rattle.places.proofs.StandLemmas.{here_is, top_there, below}
 use Rattle.places.specs.declared.placed.TopId.{TopId}
 use Rattle.chains.specs.Layered.{Layered, depth_of}
 use Rattle.layers.specs.Unplaced.{CanStandOn}
-use Rattle.layers.specs.Shelf.{Shelved, HasDepths, depth_at, ground_of}
+use Rattle.layers.specs.Shelf.{Shelved, depth_at, ground_of}
 use Rattle.layers.specs.declared.versioned.Versioned.{Versioned}
 
 -- the place is live and one less deep than this, or is none and this is a base's depth
@@ -58,8 +58,8 @@ unfolding Walks
 walk s is depth some zero p e at within near = let h = found_all IsPlaced (λ e. e.place == p) s e at is.numbers in absurd (omega (arith, h.some))
 walk s is depth some (suc n) p e at within near =
     step s p e at n depth near (nat_lt (depth_at s p) depth) refl (λ deep.
-        let up : parent_of s p ≡ e.parent = rw at refl in
-        rw up (down s is n p e at within depth some deep e.parent refl (found_all (StandsIn s) (λ e. e.place == p) s e at is.over) (walk s is depth some n)))
+    let up : parent_of s p ≡ e.parent = rw at refl in
+    rw up (down s is n p e at within depth some deep e.parent refl (found_all (StandsIn s) (λ e. e.place == p) s e at is.over) (walk s is depth some n)))
 
 -- the top of a table is found at its place
 pub top_found : (s : Shelved) → IsTable s → (e : Placed Versioned) × (placed_at s (top_id s).place ≡ Some e) × (e.depth ≡ (top_id s).depth) × Contains s e

@@ -1,6 +1,6 @@
 -- A shelf's places stay as deep as their layers, and its top is live.
-use Rattle.std.proofs.Common.{◌≡◌, ℕ, zero, suc, ◌+◌, ◌-◌, ◌<◌, ◌≤◌, Bool, true, false, List, [], ◌∷◌, ◌++◌, map, length, take, drop, Option, Some, None, refl, sym, ap, subst, ◌∙◌, arith, All, Contains}
-use Rattle.std.specs.Prelude.{cond, bit_or, eqb, ◌==◌, filter, is_some, IfSome, IsTrue, IsNone, MatchOption, ◌↔◌}
+use Rattle.std.proofs.Common.{◌≡◌, ℕ, ◌+◌, ◌-◌, ◌<◌, ◌≤◌, Bool, true, false, List, [], ◌∷◌, map, length, Option, Some, None, refl, sym, ap, subst, ◌∙◌, arith}
+use Rattle.std.specs.Prelude.{cond, bit_or, eqb, ◌==◌, filter, is_some, IsTrue, IsNone, ◌↔◌}
 use Rattle.std.proofs.lemmas.List.Elements.{All-cons, All-head, All-tail, All-push, All-append, All-take, All-drop, All-map, All-weaker, All-filter, All-contains}
 use Rattle.std.proofs.lemmas.List.{length-map}
 use Rattle.std.proofs.Math.ListN.{get_or-map}
@@ -8,7 +8,7 @@ use Rattle.std.proofs.lemmas.Map.Keys.{IsDistinct-from_apart}
 use Rattle.std.proofs.lemmas.Map.Steps.{length-le_from_distinct_below}
 use Rattle.places.specs.declared.placed.Placed.{Placed}
 use Rattle.places.specs.Placed.{placed_at, is_live, parent_of, depth_on, top_id, top_alone, others_of, with_top, without, noted, hands_of, newest_alone, narrowed, quieted, is_kept}
-use Rattle.places.specs.Table.{IsPlaced, IsOver, StandsIn, IsTable}
+use Rattle.places.specs.Table.{IsPlaced, StandsIn, IsTable}
 use Rattle.places.proofs.FindLemmas.{found_all}
 use Rattle.places.proofs.StandLemmas.{place_is, below, number_not, number_is, any_found}
 use Rattle.chains.specs.Layered.{depth_of, on_base}
@@ -100,13 +100,13 @@ few_places s is =
     let long = length-map s (λ (e : Placed Versioned). e.place) in
     let few = length-le_from_distinct_below ps 272
     (IsDistinct-from_apart eqb ps (λ i j d less within.
-        let a = get_or-map (λ (e : Placed Versioned). e.place) s i (at_none d) in
-        let b = get_or-map (λ (e : Placed Versioned). e.place) s j (at_none d) in
-        let other = is.apart i j (at_none d) less (omega (arith, long)) in
-        rw (a, b) (number_not _ _ other)))
+    let a = get_or-map (λ (e : Placed Versioned). e.place) s i (at_none d) in
+    let b = get_or-map (λ (e : Placed Versioned). e.place) s j (at_none d) in
+    let other = is.apart i j (at_none d) less (omega (arith, long)) in
+    rw (a, b) (number_not _ _ other)))
     (λ q h.
-        let got = any_found (eqb q) ps h in
-        let same = number_is q got.0 got.2 in
-        let few = All-contains (λ p. p < 272) ps got.0 (All-map (λ p. p < 272) (λ (e : Placed Versioned). e.place) s (All-weaker IsPlaced (λ e. e.place < 272) (λ e h. h.place) s is.numbers)) got.1 in
-        omega (arith, few, same)) in
+    let got = any_found (eqb q) ps h in
+    let same = number_is q got.0 got.2 in
+    let few = All-contains (λ p. p < 272) ps got.0 (All-map (λ p. p < 272) (λ (e : Placed Versioned). e.place) s (All-weaker IsPlaced (λ e. e.place < 272) (λ e h. h.place) s is.numbers)) got.1 in
+    omega (arith, few, same)) in
     omega (arith, few, long)

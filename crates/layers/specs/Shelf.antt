@@ -1,5 +1,5 @@
 -- A shelf: texts in layers at numbered places, and layers that stand at no place yet.
-use Rattle.std.specs.Prelude.{◌≡◌, ℕ, List, [], find, length, nat_lt, Option, Some, None, option_map}
+use Rattle.std.specs.Prelude.{◌≡◌, ℕ, List, [], find, nat_lt, Option, Some, option_map}
 use Rattle.std.specs.List.{All}
 use Rattle.std.specs.Option.{unwrap_or}
 use Rattle.places.specs.declared.placed.Placed.{Placed}
@@ -28,15 +28,18 @@ layers_at s p = (held_at s p).layers
 abbrev pub shown_at : Shelved → ℕ → VersionedText
 shown_at s p = record { text = whole_text (layers_at s p); version = (held_at s p).version }
 
--- the top's layers, text and version
+-- what stands at the top's place, its layers, text and version
+abbrev pub top_held : Shelved → Versioned
+top_held s = held_at s (top_id s).place
+
 abbrev pub top_layers : Shelved → Layered
-top_layers s = layers_at s (top_id s).place
+top_layers s = (top_held s).layers
 
 abbrev pub top_text : Shelved → List ℕ
 top_text s = whole_text (top_layers s)
 
 abbrev pub top_version : Shelved → ℕ
-top_version s = (held_at s (top_id s).place).version
+top_version s = (top_held s).version
 
 -- how many places the chain of a place has
 abbrev pub depth_at : Shelved → ℕ → ℕ

@@ -23,6 +23,7 @@ use places::TopId;
 use points::{MAX_UNITS, NoMemory, Range, Units};
 
 /// What a change puts in, and where.
+#[derive(Clone, Copy)]
 struct Side<'a> {
     range: Range,
     put: &'a Units,

@@ -11,6 +11,7 @@
 
 mod build;
 mod ground;
+pub mod laws;
 mod new_layer;
 mod reader;
 mod shape;

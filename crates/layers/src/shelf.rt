@@ -2,7 +2,7 @@ ghost use Rattle.std.specs.Prelude.{◌≡◌, ◌+◌, ◌<◌, ◌≤◌, ◌^
 ghost use Rattle.places.specs.Placed.{first, is_live, parent_of, top_id, free_of, noted, hand_mask, quieted, narrowed, is_kept, IsNarrow};
 ghost use Rattle.places.specs.Table.{IsTable, IsLowestFree};
 ghost use Rattle.chains.specs.Layered.{on_base, depth_of};
-ghost use Rattle.layers.specs.Shelf.{HasDepths, held_at, layers_at, shown_at, top_layers, top_version, installed};
+ghost use Rattle.layers.specs.Shelf.{HasDepths, held_at, layers_at, shown_at, top_held, top_layers, top_version, installed};
 
 use crate::ground::ground_below;
 use crate::new_layer::NewLayer;
@@ -58,7 +58,9 @@ impl Shelf {
     {
         table_is_sound(&self.table);
         let NewLayer {
-            layers, version, ..
+            layers,
+            version,
+            ..
         } = layer;
         let top = self.table.top();
         let ground = ground_below(&self.table, Some(top), MAX_DEPTH, layers.depth());
@@ -160,7 +162,7 @@ impl Shelf {
 
     // What stands at the top's place.
     fn newest(&self) -> &Versioned
-        ensures { result.now ≡ held_at self.now (top_id self.now).place }
+        ensures { result.now ≡ top_held self.now }
     {
         table_is_sound(&self.table);
         self.placed(self.table.top())

@@ -1,6 +1,5 @@
 use Rattle.std.proofs.Common.{◌≡◌, sym, subst, ap, ◌∙◌}
 use Rattle.places.specs.Placed.{top_id}
-use Rattle.chains.specs.Layered.{depth_of}
 use Rattle.layers.specs.Shelf.{HasDepths}
 use Rattle.layers.proofs.GroundLemmas.{ground_found}
 use Rattle.layers.proofs.ShelfLemmas.{deep_topped}
