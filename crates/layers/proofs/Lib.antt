@@ -1,0 +1,4 @@
+pub mod GroundLemmas
+pub mod ShelfLemmas
+pub mod BuildLemmas
+pub mod LawLemmas
