@@ -9,10 +9,10 @@ use edit_history::Steps;
 use markers::MarkerIndex;
 use patch::Change;
 use points::{HitCounts, MAX_COORD, MAX_STEPS, NoMemory, traversal};
-use std::alloc::Global;
 use watch::{Listens, Seat, Watchers};
 
-/// The marks, steps and watchers of one text.
+/// The marks, steps and watchers of one text. Whoever makes one puts its parts together: a call that handed it out would
+/// hide the boxes in it.
 #[derive(Drop)]
 pub struct Followers {
     pub marks: MarkerIndex,
@@ -21,22 +21,6 @@ pub struct Followers {
 }
 
 impl Followers {
-    /// No mark, no step and no watcher. The room for all steps is taken here.
-    pub fn new(alloc: Global) -> Result<Self, NoMemory>
-        ensures marks { IfOk result (λ f. f.marks ≡ []) }
-        ensures past { IfOk result (λ f. steps_of f.steps.past ≡ []) }
-        ensures future { IfOk result (λ f. steps_of f.steps.future ≡ []) }
-        ensures watchers { IfOk result (λ f. watchings f.watchers.seats.items ≡ []) }
-        ensures told { IfOk result (λ f. f.watchers.told ≡ 0) }
-        ensures stands { IfOk result (λ f. Stands (λ s. ⟦<Seat as Listens>⟧.kept s) f.watchers.told f.watchers.seats.items) }
-    {
-        Ok(Followers {
-            marks: MarkerIndex::new(alloc),
-            steps: Steps::new(alloc)?,
-            watchers: Watchers::new(),
-        })
-    }
-
     /// A change was made anew: the marks move, the watchers hear of it, and it can be taken back. The answer is how many
     /// marks it hits where they stood before it.
     pub fn edited(&mut self, change: Change) -> HitCounts
