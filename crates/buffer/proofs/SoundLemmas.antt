@@ -1,6 +1,6 @@
 -- Each call leaves a sound state sound.
 use Rattle.std.proofs.Common.{◌≡◌, ℕ, zero, suc, ◌+◌, ◌-◌, ◌<◌, ◌≤◌, List, [], ◌∷◌, ◌++◌, length, take, drop, map, Bool, true, false, cond, Option, Some, None, refl, sym, subst, ap, ◌∙◌, unwrap_or, inl, inr, arith, append_assoc, take-append-drop, length-append}
-use Rattle.std.specs.Prelude.{nat_lt, nat_le, ◌==◌, not, is_some, slice_get}
+use Rattle.std.specs.Prelude.{nat_lt, nat_le, ◌==◌, not, is_some, slice_get, Result, Ok, Err, IfOk, OnErr}
 use Rattle.std.specs.List.{All, filter}
 use Rattle.std.proofs.lemmas.Bool.{cases_lt, cases_Bool, lt-ltb, le-ltb, false≢true, ltb-false}
 use Rattle.std.proofs.lemmas.Bool.Decides.{nat_tests}
@@ -21,6 +21,9 @@ use Rattle.points.proofs.ExtentParts.{point_at-replaced_before}
 use Rattle.points.proofs.MarkTextLemmas.{marks_moved}
 use Rattle.points.proofs.OffsetLemmas.{offset_of-at}
 use Rattle.points.proofs.TextLemmas.{length-replaced}
+use Rattle.points.specs.declared.memory.NoMemory.{NoMemory}
+use Rattle.machine.specs.declared.reply.Reply.{Reply}
+use Rattle.buffer.specs.Seen.{answered}
 use Rattle.machine.specs.declared.reply.CallRefusal.TheVariants as no
 use Rattle.machine.specs.Machine.{State, Change, Step, Call, Answer, Watching, Refused, Done, between, changed, change_of, splice_at, put, counted, edited, edited_one, nothing_made, one_made, undo_step, redo_step, tells, with_marks, on_mark, with_watchers, with_watcher, watcher_with, unwatch_step, step, opened, edit, batch, undo, redo, look, add_mark, remove_mark, set_exclusive, mark_range, find_marks, compare_marks, watch, unwatch}
 use Rattle.buffer.specs.Sound.{Leads, LeadsOn, LeadsBack, LeadInTurn, IsSound, is_single}
@@ -202,3 +205,12 @@ sound_step s (unwatch id) single h = sound_unwatch s id (watcher_with id s.watch
 -- the state in which a text is opened
 pub sound_opened : (t : List ℕ) → length t ≤ MAX_UNITS → IsSound (opened t)
 sound_opened t short = record { short = short; few_marks = omega arith; marks = All-nil (IsMarkOf t); past = record {}; future = record {} }
+
+-- ---- what a call answers, and the state after it
+
+pub sound_after : (s : State) (call : Call) (state : State) (reply : Reply) → is_single call ≡ true → (state, reply) ≡ answered s call → IsSound s → IsSound state
+sound_after s call state reply single is h = let e : state ≡ (step s call).0 = ap (λ (p : State × Reply). p.0) is in rw e (sound_step s call single h)
+
+pub sound_done : (s : State) (call : Call) (state : State) (r : Result Reply NoMemory) → is_single call ≡ true → IfOk r (λ reply. (state, reply) ≡ answered s call) → OnErr r (state ≡ s) → IsSound s → IsSound state
+sound_done s call state (Ok reply) single is err h = sound_after s call state reply single is h
+sound_done s call state (Err e) single is err h = rw err h

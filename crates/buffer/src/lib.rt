@@ -7,6 +7,7 @@
 mod buffer;
 mod change;
 mod marks;
+mod play;
 mod text;
 mod undo;
 mod watch_calls;

@@ -27,7 +27,7 @@ returns-then-is_too_long-clause-ok g c =
     let some : is_nothing i j (utf16_of c.args.text.now) ≡ false = subst (λ (n : ℕ). ((i == j) && (n == 0)) ≡ false) many (sym c.is_nothing.ensures ∙ c.if-is_nothing.false) in
     let all : length (replaced s.text i j (utf16_of c.args.text.now)) ≡ c.len-2.result - (j - i) + c.len-3.result =
     too_long_is s.text i j (utf16_of c.args.text.now) (c.len-2.result - (j - i)) c.len-3.result c.span-from.ensures.order c.span-from.ensures.within (ap (λ (n : ℕ). n - (j - i)) c.len-2.ensures.value)
-        (c.len-3.ensures ∙ ap (λ (u : List ℕ). length u) c.in_ok-new_text.ensures) in
+    (c.len-3.ensures ∙ ap (λ (u : List ℕ). length u) c.in_ok-new_text.ensures) in
     let long : nat_lt MAX_UNITS (length (replaced s.text i j (utf16_of c.args.text.now))) ≡ true = ap (λ (n : ℕ). nat_lt MAX_UNITS n) all ∙ (sym c.is_too_long.ensures ∙ c.if-is_too_long.true) in
     same_answer s (edit (c.args.range, utf16_of c.args.text.now)) _ _ _ (edit_too_long s c.args.range (utf16_of c.args.text.now) i j c.span-from.ensures.from c.span-from.ensures.to some long)
     (ap (λ b. state_of b) c.refused.ensures.new) c.refused.ensures.reply

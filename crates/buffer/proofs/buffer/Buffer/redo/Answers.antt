@@ -47,12 +47,12 @@ returns-clause-ok g c =
     let u : State = (moved_over s i r.old_text r.new_text (take 1 s.future ++ s.past) (drop 1 s.future)).0 in
     same_answer s redo _ _ _ (redo_makes s r.start r.old_text r.new_text i first refl)
     (ap (λ b. state_of (record b { version = c.numbered-self.result })) c.numbered-self.ensures.new ∙ same_state _ u c.in_ok-change.ensures.ok
-        (c.redone-hits.ensures.marks ∙ ap (λ (p : Splice). all_moved p s.marks) c.in_ok-change.ensures.splice)
-        c.redone-hits.ensures.past c.redone-hits.ensures.future
-        (c.redone-hits.ensures.watchers ∙ ap (λ (p : Splice). map (heard_more p) s.watchers) c.in_ok-change.ensures.splice)
-        refl c.numbered-self.ensures.number)
+    (c.redone-hits.ensures.marks ∙ ap (λ (p : Splice). all_moved p s.marks) c.in_ok-change.ensures.splice)
+    c.redone-hits.ensures.past c.redone-hits.ensures.future
+    (c.redone-hits.ensures.watchers ∙ ap (λ (p : Splice). map (heard_more p) s.watchers) c.in_ok-change.ensures.splice)
+    refl c.numbered-self.ensures.number)
     (c.edited_reply.ensures ∙ reply_made _ (s.count + 1) _ (splice_at s.text i (i + length r.old_text) r.new_text) _ s.marks c.numbered-self.ensures.number
-        (c.splice_by.ensures ∙ c.in_ok-change.ensures.splice) (c.redone-hits.ensures.hits ∙ ap (λ (p : Splice). hit_counts p s.marks) c.in_ok-change.ensures.splice))
+    (c.splice_by.ensures ∙ c.in_ok-change.ensures.splice) (c.redone-hits.ensures.hits ∙ ap (λ (p : Splice). hit_counts p s.marks) c.in_ok-change.ensures.splice))
 
 pub returns-clause-stands : goal.returns-clause-stands
 returns-clause-stands g c = rw c.numbered-self.ensures.new c.redone-hits.ensures.stands
