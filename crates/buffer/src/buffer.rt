@@ -3,6 +3,7 @@ ghost use Rattle.points.specs.Text.{utf16_of, text_of};
 ghost use Rattle.machine.specs.Machine.{opened, counted};
 ghost use Rattle.watch.specs.Seats.{Stands};
 ghost use Rattle.buffer.specs.Seen.{state_of};
+ghost use Rattle.buffer.specs.Sound.{IsSound};
 
 use arrayvec::ArrayVec;
 use edit_history::Steps;
@@ -30,6 +31,7 @@ impl Buffer {
     pub fn open(alloc: Global, text: &str) -> Result<Self, NoMemory>
         requires { length (utf16_of text.now) ≤ MAX_UNITS }
         ensures state { IfOk result (λ b. state_of b ≡ opened (utf16_of text.now)) }
+        ensures sound { IfOk result (λ b. IsSound (state_of b)) }
         ensures told { IfOk result (λ b. b.followers.watchers.told ≡ 0) }
         ensures stands { IfOk result (λ b. Stands (λ s. ⟦<Seat as Listens>⟧.kept s) b.followers.watchers.told b.followers.watchers.seats.items) }
     {
