@@ -104,14 +104,6 @@ impl<X> Table<X> {
         Some(&find(&self.entries, place)?.held)
     }
 
-    /// What is held at the top.
-    pub fn top_held(&self) -> &X
-        ensures { option_map (λ e. e.held) (top_of self.now) ≡ Some result.now }
-    {
-        let last = self.entries.len() - 1;
-        &self.entries[last].held
-    }
-
     /// The hands on a place, one bit each.
     pub fn mask(&self, place: u32) -> Option<u64>
         ensures { result ≡ option_map (λ e. e.mask) (placed_at self.now place) }
