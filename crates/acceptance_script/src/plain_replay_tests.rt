@@ -18,10 +18,12 @@ fn at(column: u32) -> Point {
 
 // The range of the first row between two columns in order.
 fn columns(from: u32, to: u32) -> Range {
-    if at(from) <= at(to) {
-        Range::new(at(from), at(to))
+    let start = at(from);
+    let end = at(to);
+    if start <= end {
+        Range::new(start, end)
     } else {
-        Range::new(at(to), at(to))
+        Range::new(end, end)
     }
 }
 
