@@ -16,12 +16,16 @@ pub(crate) fn edited(
     put: &[u16],
 ) -> Result<Chain, Fail> {
     let put = text_of(alloc, put)?;
-    if from > to || to > chain.len() || chain.depth() > 8 || chain.len() + put.len() > MAX_UNITS {
-        Err("this can't be replaced")?;
+    if from <= to
+        && to <= chain.len()
+        && chain.depth() <= 8
+        && chain.len() + put.len() <= MAX_UNITS
+    {
+        let start = chain.spot_at(from);
+        let end = chain.spot_at(to);
+        return Ok(chain.edited(alloc, start, end, &put)?);
     }
-    let start = chain.spot_at(from);
-    let end = chain.spot_at(to);
-    Ok(chain.edited(alloc, start, end, &put)?)
+    Ok(Err("this can't be replaced")?)
 }
 
 // A text of this unit alone, with no layer above it.
