@@ -11,6 +11,8 @@ mod chains_tests;
 #[cfg(test)]
 mod edit_history_tests;
 #[cfg(test)]
+mod layers_tests;
+#[cfg(test)]
 mod line_text_tests;
 #[cfg(test)]
 mod machine_tests;
