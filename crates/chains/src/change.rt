@@ -110,6 +110,7 @@ impl Chain {
         ensures { IfOk result (λ made. made ≡ on_base self.now.base (newest_edited self.now.above from.offset to.offset put.now)) }
     {
         match top_of(self.above.as_slice()) {
+            // There is one.
             None => self.try_clone(),
             Some(top) => newest_edited(alloc, &self.base, top, from, to, put),
         }
@@ -131,7 +132,7 @@ impl Chain {
         layer_added(alloc, &self.base, self.above.as_slice(), from, to, put)
     }
 
-    /// Whether an edit goes into the newest layer above the base.
+    /// Whether an edit goes into the newest layer above the base: there is one, and it is small.
     pub fn joins_newest(&self) -> bool
         ensures { result ≡ joins_newest self.now.base self.now.above }
     {

@@ -71,10 +71,7 @@ pub(crate) fn share(
 }
 
 // Puts the layer of a slot, where it has one, behind those that `shared` has.
-fn share_slot(
-    shared: &mut ArrayVec<Option<Held>, 8>,
-    slot: &Option<Held>,
-) -> Result<(), NoMemory>
+fn share_slot(shared: &mut ArrayVec<Option<Held>, 8>, slot: &Option<Held>) -> Result<(), NoMemory>
     requires { array_vec_len shared.old + length (overlays_of (slot.now ∷ [])) ≤ 8 }
     ensures layers { OnOk result (overlays_of shared.new.items ≡ overlays_of shared.old.items ++ overlays_of (slot.now ∷ [])) }
     ensures room { OnOk result (array_vec_len shared.new ≡ array_vec_len shared.old + length (overlays_of (slot.now ∷ []))) }
