@@ -6,12 +6,12 @@ pub mod StandParts
 pub mod StretchLemmas
 pub mod WeaverLemmas
 pub mod EditLemmas
+pub mod SquashLemmas
 pub mod ChainLemmas
 pub mod SizeLemmas
 pub mod SpotLemmas
 pub mod WalkLemmas
-pub mod FlattenLemmas
-pub mod SquashLemmas
 pub mod ChangeLemmas
 pub mod StackLemmas
 pub mod LineLemmas
+pub mod FlattenLemmas
