@@ -2,7 +2,7 @@
 //! the flat text.
 use chains::{Chain, Spot};
 use line_text::LineText;
-use points::{MAX_UNITS, Point, Range, Units};
+use points::{MAX_UNITS, NoMemory, Point, Range, Units};
 use std::alloc::Global;
 use std::test::Fail;
 
@@ -16,14 +16,24 @@ fn text_of(alloc: Global, units: &[u16]) -> Result<LineText, Fail> {
     Ok(LineText::from_units(list)?)
 }
 
-// The text with one layer more, which puts these units in at an offset.
-fn with_layer(alloc: Global, chain: &Chain, offset: usize, units: &[u16]) -> Result<Chain, Fail> {
-    let put = text_of(alloc, units)?;
+// The text with one layer more, which puts these units in at an offset, where it has room for them.
+fn layer_at(
+    alloc: Global,
+    chain: &Chain,
+    offset: usize,
+    put: &LineText,
+) -> Result<Option<Chain>, NoMemory> {
     if offset > chain.len() || chain.depth() > 8 || chain.len() + put.len() > MAX_UNITS {
-        Err("nothing can be put in here")?;
+        return Ok(None);
     }
     let spot = chain.spot_at(offset);
-    Ok(chain.add_layer(alloc, spot, spot, &put)?)
+    Ok(Some(chain.add_layer(alloc, spot, spot, put)?))
+}
+
+fn with_layer(alloc: Global, chain: &Chain, offset: usize, units: &[u16]) -> Result<Chain, Fail> {
+    let put = text_of(alloc, units)?;
+    let made = layer_at(alloc, chain, offset, &put)?;
+    Ok(made.ok_or("no room")?)
 }
 
 // ab CR LF c (high, low) d: the carriage return and both surrogates stand in three layers above the rest.

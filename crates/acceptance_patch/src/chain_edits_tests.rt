@@ -16,12 +16,17 @@ pub(crate) fn edited(
     put: &[u16],
 ) -> Result<Chain, Fail> {
     let put = text_of(alloc, put)?;
-    if from > to || to > chain.len() || chain.depth() > 8 || chain.len() + put.len() > MAX_UNITS {
-        Err("this can't be replaced")?;
+    if from <= to
+        && to <= chain.len()
+        && chain.depth() <= 8
+        && chain.len() + put.len() <= MAX_UNITS
+    {
+        let start = chain.spot_at(from);
+        let end = chain.spot_at(to);
+        Ok(chain.edited(alloc, start, end, &put)?)
+    } else {
+        Ok(Err("this can't be replaced")?)
     }
-    let start = chain.spot_at(from);
-    let end = chain.spot_at(to);
-    Ok(chain.edited(alloc, start, end, &put)?)
 }
 
 // A text of this unit alone, with no layer above it.
@@ -104,7 +109,7 @@ fn ninth_layer_makes_a_base(rt: HostRuntime) -> Result<(), Fail> {
 
 // Whether the newest layer of the chain counts what the patch of the way counts, and gives the same text.
 fn is_alike(alloc: Global, chain: &Chain, way: &Way) -> Result<bool, Fail> {
-    let changes = way.patch.count() as u32;
+    let changes = u32::try_from(way.patch.count()).unwrap_or(u32::MAX);
     Ok(
         has_sizes(alloc, chain, &[(0, 0), (changes, way.patch.units())])?
             && has_units(alloc, chain, units_of(&way.text))?,

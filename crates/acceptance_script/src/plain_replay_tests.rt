@@ -5,7 +5,7 @@ ghost use Rattle.machine.specs.Answers.{call_of};
 
 use machine::{CallRefusal, Command, HitNumbers, How, Reply, ReplyPart, Text};
 use plain_replay::Plain;
-use points::{MarkOrder, Point, Range};
+use points::{MAX_UNITS, MarkOrder, Point, Range, Units};
 use std::alloc::Global;
 use std::test::Fail;
 
@@ -18,11 +18,22 @@ fn at(column: u32) -> Point {
 
 // The range of the first row between two columns in order.
 fn columns(from: u32, to: u32) -> Range {
-    if at(from) <= at(to) {
-        Range::new(at(from), at(to))
+    let start = at(from);
+    let end = at(to);
+    if start <= end {
+        Range::new(start, end)
     } else {
-        Range::new(at(to), at(to))
+        Range::new(end, end)
     }
+}
+
+// The plain machine over a text that isn't too long.
+fn started(alloc: Global, text: &str) -> Option<Plain> {
+    let units = Units::from_str(alloc, text).ok()?;
+    if units.len() > MAX_UNITS {
+        return None;
+    }
+    Plain::start(alloc, text).ok()
 }
 
 // The reply to a command.
@@ -162,7 +173,7 @@ fn reads(plain: &Plain, units: &[u16]) -> bool {
 
 #[test]
 fn marks_on_hello(rt: HostRuntime) -> Result<(), Fail> {
-    let mut plain = Plain::start(rt.alloc(), "hello")?;
+    let mut plain = started(rt.alloc(), "hello").ok_or("none")?;
     assert!(rt; is_done(mark(&mut plain, 1, 1, 3, false)));
     assert!(rt; is_refused(mark(&mut plain, 1, 1, 3, false), CallRefusal::MarkTaken));
     assert!(rt; edits(&mut plain, rt.alloc(), "X", ([3, 3, 4], [1, 0, 0, 0])));
@@ -181,7 +192,7 @@ fn marks_on_hello(rt: HostRuntime) -> Result<(), Fail> {
 
 #[test]
 fn six_marks_around_an_insertion(rt: HostRuntime) -> Result<(), Fail> {
-    let mut plain = Plain::start(rt.alloc(), "aaaa")?;
+    let mut plain = started(rt.alloc(), "aaaa").ok_or("none")?;
     for (id, from, to, exclusive) in [
         (1, 2, 2, false),
         (2, 2, 2, true),
@@ -208,7 +219,7 @@ fn six_marks_around_an_insertion(rt: HostRuntime) -> Result<(), Fail> {
 
 #[test]
 fn undo_of_a_carriage_return_before_a_line_feed(rt: HostRuntime) -> Result<(), Fail> {
-    let mut plain = Plain::start(rt.alloc(), "\n")?;
+    let mut plain = started(rt.alloc(), "\n").ok_or("none")?;
     assert!(rt; edits(&mut plain, rt.alloc(), "\r", ([0, 0, 1], [0, 0, 0, 0])));
     assert!(rt; reads(&plain, &[13, 10]));
     assert!(rt;
@@ -231,7 +242,7 @@ fn undo_of_a_carriage_return_before_a_line_feed(rt: HostRuntime) -> Result<(), F
 
 #[test]
 fn a_watcher_hears_each_change_once(rt: HostRuntime) -> Result<(), Fail> {
-    let mut plain = Plain::start(rt.alloc(), "ab")?;
+    let mut plain = started(rt.alloc(), "ab").ok_or("none")?;
     assert!(rt; is_done(answer(&mut plain, &Command::Watch { id: 7 })));
     assert!(rt;
         is_refused(

@@ -1,13 +1,12 @@
 -- Rows of a text without their endings, single units, and what a point is clipped to.
-use Rattle.std.proofs.Common.{◌≡◌, ℕ, zero, suc, ◌+◌, ◌-◌, ◌<◌, ◌≤◌, List, [], ◌∷◌, length, take, drop, slice_range, get_or, min, cond, eqb, ltb, Bool, true, false, ◌&&◌, refl, sym, ap, ◌∙◌, subst, arith, length-take}
+use Rattle.std.proofs.Common.{◌≡◌, ℕ, ◌+◌, ◌-◌, ◌<◌, ◌≤◌, List, length, take, drop, slice_range, get_or, min, cond, eqb, ltb, Bool, true, false, ◌&&◌, refl, sym, ap, ◌∙◌, subst, arith, length-take}
 use Rattle.std.specs.Char.Utf16.{is_high_surrogate, is_low_surrogate}
 use Rattle.std.proofs.lemmas.List.{get_or-take, get_or-drop, get_or_past, take_all}
-use Rattle.std.proofs.lemmas.Bool.{and_left, and_right, eq-eqb, ne_eqb, le-ltb, lt-ltb}
-use Rattle.std.proofs.lemmas.Bool.Decides.{nat_tests}
+use Rattle.std.proofs.lemmas.Bool.{and_right, eq-eqb, ne_eqb, le-ltb, lt-ltb}
 use Rattle.points.specs.declared.point.Point.{Point}
 use Rattle.points.specs.Text.{CR}
 use Rattle.points.specs.MarkText.{IsPointOf}
-use Rattle.points.specs.Place.{extent, point_at, row_of, row_start, line_of, ends_with_cr, splits_pair, clip, clipped_column, clipped_offset}
+use Rattle.points.specs.Place.{extent, point_at, row_of, row_start, line_of, ends_with_cr, splits_pair, clipped_column, clipped_offset}
 use Rattle.points.proofs.ExtentLemmas.{feeds}
 use Rattle.points.proofs.PointLemmas.{at_row_column}
 use Rattle.points.proofs.RowLemmas.{row_is, row_start_next, row_end_last}

@@ -44,7 +44,7 @@ squash_text v = either_text (is_within 512 65536 (size_of v.base (tags_since v.b
 
 -- ---- one more at the end
 module _ {X : Type 0} where
-  last_got : (xs : List X) (x : X) → slice_get (xs ++ x ∷ []) (length (xs ++ x ∷ []) - 1) ≡ Some x
+  pub last_got : (xs : List X) (x : X) → slice_get (xs ++ x ∷ []) (length (xs ++ x ∷ []) - 1) ≡ Some x
   last_got xs x = let long : length (xs ++ x ∷ []) - 1 ≡ length xs = omega (arith, length-append xs (x ∷ [])) in rw long (got_last xs x)
     where
       got_last : (xs : List X) (x : X) → slice_get (xs ++ x ∷ []) (length xs) ≡ Some x
@@ -67,10 +67,10 @@ module _ {X : Type 0} where
   find_last q [] x e h = rw h refl
   find_last q (y ∷ ys) x e h = last_at q y ys x (q y) e (λ s. find_last q ys x s h)
 
-held_there : (s : Shelved) (p : ℕ) (e : Placed Versioned) → placed_at s p ≡ Some e → held_at s p ≡ e.held
+pub held_there : (s : Shelved) (p : ℕ) (e : Placed Versioned) → placed_at s p ≡ Some e → held_at s p ≡ e.held
 held_there s p e at = rw (at, held_at) refl
 
-top_is : (s : Shelved) (e : Placed Versioned) → top_of s ≡ Some e → (top_id s).place ≡ e.place
+pub top_is : (s : Shelved) (e : Placed Versioned) → top_of s ≡ Some e → (top_id s).place ≡ e.place
 top_is s e at = rw (at, top_id) refl
 
 abbrev entry : Shelved → ℕ → Unplaced → Placed Versioned

@@ -2,3 +2,4 @@ pub mod GroundLemmas
 pub mod ShelfLemmas
 pub mod BuildLemmas
 pub mod LawLemmas
+pub mod HandLemmas

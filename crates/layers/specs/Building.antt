@@ -20,7 +20,7 @@ abbrev pub turned : Bool → Hunk → Hunk
 turned back h = if back then inverted h else h
 
 -- the change's old text stands in t from offset i on, between the points of its range
-pub record StandsAt (t : List ℕ) (h : Hunk) (i : ℕ) : Type 0 where
+pub record StandsThere (t : List ℕ) (h : Hunk) (i : ℕ) : Type 0 where
   pub within : i + length h.old_text ≤ length t
   pub units : slice_range t i (i + length h.old_text) ≡ h.old_text
   pub start : point_at t i ≡ h.old_start
@@ -29,7 +29,7 @@ pub record StandsAt (t : List ℕ) (h : Hunk) (i : ℕ) : Type 0 where
 -- the change can be made in t: its old text stands there, and the text doesn't become too long
 pub record CanChange (t : List ℕ) (h : Hunk) : Type 0 where
   pub at : ℕ
-  pub stands : StandsAt t h at
+  pub stands : StandsThere t h at
   pub short : length t + length h.new_text ≤ MAX_UNITS + length h.old_text
 
 -- the change as a replacement at offset i

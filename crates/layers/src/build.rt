@@ -12,7 +12,7 @@ ghost use Rattle.line_text.specs.declared.refusal.TextRefusal.TheVariants as Tex
 ghost use Rattle.chains.specs.Layered.{depth_of};
 ghost use Rattle.chains.specs.Changes.{CanReplace};
 ghost use Rattle.layers.specs.Shelf.{top_layers, top_text, changed_top, squashed_top, based_top};
-ghost use Rattle.layers.specs.Building.{AreSpots, turned, StandsAt, CanChange, edit_at};
+ghost use Rattle.layers.specs.Building.{AreSpots, turned, StandsThere, CanChange, edit_at};
 
 use crate::new_layer::NewLayer;
 use crate::shelf::{Shelf, places_are_sound};
@@ -74,7 +74,7 @@ impl Shelf {
         back: bool,
     ) -> Result<NewLayer, NoMemory>
         requires { CanChange (top_text self.now) (turned back (hunk_of change.now)) }
-        ensures { IfOk result (λ layer. (i : ℕ) → StandsAt (top_text self.now) (turned back (hunk_of change.now)) i
+        ensures { IfOk result (λ layer. (i : ℕ) → StandsThere (top_text self.now) (turned back (hunk_of change.now)) i
             → layer ≡ changed_top self.now version (edit_at i (turned back (hunk_of change.now)) ∷ [])) }
     {
         let side = side_of(change, back);
@@ -93,7 +93,7 @@ impl Shelf {
         if self.look().depth() <= 2 {
             return Ok(None);
         }
-        let on = self.ground_for_more()?;
+        let on = self.young_top()?;
         let layers = self.look().squashed(self.alloc)?;
         let version = self.version();
         Ok(Some(NewLayer {
@@ -107,7 +107,7 @@ impl Shelf {
     pub fn build_base(&self) -> Result<NewLayer, NoMemory>
         ensures { IfOk result (λ layer. layer ≡ based_top self.now) }
     {
-        let on = self.ground_for_more()?;
+        let on = self.young_top()?;
         let layers = self.look().flattened(self.alloc)?;
         let version = self.version();
         Ok(NewLayer {
@@ -128,7 +128,7 @@ impl Shelf {
         requires { CanReplace (top_text self.now) from to put.now }
         ensures { IfOk result (λ layer. layer ≡ changed_top self.now version ((from.offset, to.offset, put.now) ∷ [])) }
     {
-        let on = self.ground_for_more()?;
+        let on = self.young_top()?;
         let layers = self.look().edited(self.alloc, from, to, put)?;
         Ok(NewLayer {
             layers,
@@ -138,7 +138,7 @@ impl Shelf {
     }
 
     // Which top there is, where another can come after it.
-    fn ground_for_more(&self) -> Result<TopId, NoMemory>
+    fn young_top(&self) -> Result<TopId, NoMemory>
         ensures top { IfOk result (λ on. on ≡ top_id self.now) }
         ensures young { IfOk result (λ on. on.age < 2 ^ 64 - 1) }
         ensures deep { IfOk result (λ on. on.depth ≡ depth_of (top_layers self.now)) }

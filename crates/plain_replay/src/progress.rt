@@ -49,7 +49,7 @@ impl Progress {
     }
 }
 
-/// Edits in turn. It answers none where a text would be too long.
+/// Edits in turn, one call of this function for each. It answers none where a text would be too long.
 pub(crate) fn members(body: &Body, edits: &[BatchEdit]) -> Result<Option<Progress>, NoMemory>
     requires { body.now.count < 2 ^ 57 }
     ensures { IfOk result (λ p. p ≡ members body.now (map edit_of edits.now)) }

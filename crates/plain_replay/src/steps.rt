@@ -1,4 +1,4 @@
-//! Steps taken back and made again.
+//! Steps taken back and made again, one call of a function for each change. A step has as many as its call had edits.
 ghost use Rattle.std.specs.Prelude.{◌≡◌, ℕ, ◌<◌, ◌^◌, ◌++◌, List, length, take, drop, slice_index_or, IfOk, OnOk, OnErr};
 ghost use Rattle.machine.specs.Machine.{undone, redone};
 ghost use Rattle.plain_replay.specs.Standing.{Leads};

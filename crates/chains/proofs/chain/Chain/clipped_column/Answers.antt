@@ -1,5 +1,5 @@
-use Rattle.std.proofs.Common.{◌≡◌, ℕ, ◌+◌, ◌-◌, ◌<◌, length, min, false, true, sym, ap, ◌∙◌, arith}
-use Rattle.points.specs.Place.{line_of, row_start, splits_pair}
+use Rattle.std.proofs.Common.{◌≡◌, ℕ, ◌+◌, length, min, false, true, sym, ap, ◌∙◌, arith}
+use Rattle.points.specs.Place.{line_of, splits_pair}
 use Rattle.chains.specs.Layered.{whole_text}
 use Rattle.chains.proofs.LineLemmas.{line_within, splits_in, splits_first, splits_last, column_by}
 use Rattle.chains.proofs.chain.Chain.clipped_column.Goals.{else-column-gt0-via-then-column-gt0+then-column-line+else-splits_pair, else-column-gt0-via-then-column-gt0+else-column-line, else-column-gt0-via-else-column-gt0}

@@ -1,6 +1,5 @@
-use Rattle.std.proofs.Common.{◌<◌, Option, subst, ◌∙◌}
+use Rattle.std.proofs.Common.{◌<◌, subst, ◌∙◌}
 use Rattle.points.specs.Place.{extent}
-use Rattle.chains.specs.declared.line.Line.{Line}
 use Rattle.chains.specs.Layered.{whole_text}
 use Rattle.chains.specs.Lines.{IsLineAt}
 use Rattle.chains.proofs.LineLemmas.{clipped_behind}

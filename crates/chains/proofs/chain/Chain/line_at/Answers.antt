@@ -1,4 +1,4 @@
-use Rattle.std.proofs.Common.{◌≡◌, ◌+◌, ◌≤◌, length, arith, ap}
+use Rattle.std.proofs.Common.{◌≡◌, ◌≤◌, arith, ap}
 use Rattle.points.specs.Place.{row_start}
 use Rattle.points.proofs.ExtentLemmas.{feeds}
 use Rattle.chains.specs.declared.spot.Spot.{Spot}
