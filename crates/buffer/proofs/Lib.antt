@@ -1,4 +1,5 @@
 pub mod TopLemmas
+pub mod LookLemmas
 pub mod TextLemmas
 pub mod EditLemmas
 pub mod UndoLemmas

@@ -1,5 +1,5 @@
 //! Edits and looks.
-ghost use Rattle.std.specs.Prelude.{◌≡◌, ◌+◌, ◌-◌, ◌<◌, ◌≤◌, ◌==◌, ◌&&◌, ◌∷◌, [], length, nat_lt, IfOk, OnOk, OnErr};
+ghost use Rattle.std.specs.Prelude.{◌≡◌, ◌+◌, ◌-◌, ◌<◌, ◌≤◌, ◌^◌, ◌==◌, ◌&&◌, ◌∷◌, [], length, min, nat_lt, IfOk, OnOk, OnErr};
 ghost use Rattle.points.specs.Text.{utf16_of};
 ghost use Rattle.points.specs.Place.{point_at};
 ghost use Rattle.machine.specs.Machine.{edit, look, shown, counted, with_step, changed, change_of, part_of, no_hits};
@@ -48,7 +48,8 @@ impl Buffer {
         ensures count { self.old.count ≤ self.new.count }
     {
         let (from, to) = self.text.span(range);
-        let units = self.text.units(from, to)?;
+        let end = read_end(from, to, limit as usize);
+        let units = self.text.units(from, end)?;
         let text = String::from_utf16_lossy(alloc, shown(units.as_slice(), limit as usize))?;
         Ok(Reply::Text {
             at: self.numbered(),
@@ -118,6 +119,17 @@ fn is_too_long(kept: usize, len: usize) -> bool
     ensures { result ≡ nat_lt MAX_UNITS (kept + len) }
 {
     len > MAX_UNITS - kept
+}
+
+// The end of what is read to show so many units: one more, since it may be the other half of a pair.
+fn read_end(from: usize, to: usize, limit: usize) -> usize
+    requires order { from ≤ to }
+    requires limit { limit < 2 ^ 32 }
+    ensures value { result ≡ from + min (to - from) (limit + 1) }
+    ensures within { result ≤ to }
+    ensures order { from ≤ result }
+{
+    from + (to - from).min(limit + 1)
 }
 
 // The first units, at most `limit`, and one fewer where that would part a surrogate pair.

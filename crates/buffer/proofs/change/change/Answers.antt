@@ -10,4 +10,4 @@ new-requires c = rw (c.point_at-start.ensures, c.point_at-old_end.ensures) (poin
 
 pub new-requires-2 : goal.new-requires-2
 new-requires-2 c = rw (c.point_at-start.ensures, c.point_at-new_end.ensures, c.len.ensures)
-    (ends_behind c.args.text.now c.args.from c.args.to c.args.new_text c.put.new.self c.requires.order c.requires.within (rw c.as_slice.ensures at c.in_ok-put.ensures.ok))
+    (ends_behind c.args.text.now c.args.from c.args.to c.args.new_text c.put.new.self c.requires.order c.requires.within c.in_ok-put.ensures.ok)

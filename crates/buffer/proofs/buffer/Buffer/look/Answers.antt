@@ -6,11 +6,12 @@ use Rattle.buffer.proofs.EditLemmas.{same_answer}
 use Rattle.points.specs.Text.{text_of}
 use Rattle.machine.specs.Machine.{look, shown}
 use Rattle.buffer.proofs.EditLemmas.{look_shows}
+use Rattle.buffer.proofs.LookLemmas.{shown_is}
 use Rattle.buffer.proofs.buffer.Buffer.look.Goals as goal
 
 pub returns-clause-ok : goal.returns-clause-ok
 returns-clause-ok g c =
     let s : State = state_of c.args.self.now in
     same_answer s (look c.args.range c.args.limit) _ _ _
-    (look_shows s c.args.range c.args.limit c.span-from.result.0 c.span-from.result.1 _ _ c.span-from.ensures.from c.span-from.ensures.to (c.shown.ensures ∙ ap (shown c.args.limit) (c.as_slice.ensures ∙ c.in_ok-units.ensures)) refl)
+    (look_shows s c.args.range c.args.limit c.span-from.result.0 c.span-from.result.1 _ _ c.span-from.ensures.from c.span-from.ensures.to (c.shown.ensures ∙ ap (shown c.args.limit) (c.as_slice.ensures ∙ c.in_ok-units.ensures) ∙ shown_is s.text c.span-from.result.0 c.span-from.result.1 c.args.limit c.read_end-end.result c.read_end-end.ensures.value) refl)
     (ap (λ b. state_of b) c.numbered.ensures.new) (rw (c.numbered.ensures.number, c.new.ensures, c.in_ok-text.ensures) refl)
