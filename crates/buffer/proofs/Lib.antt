@@ -1,3 +1,4 @@
+pub mod TopLemmas
 pub mod TextLemmas
 pub mod EditLemmas
 pub mod UndoLemmas

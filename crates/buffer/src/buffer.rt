@@ -5,6 +5,7 @@ ghost use Rattle.watch.specs.Seats.{Stands};
 ghost use Rattle.buffer.specs.Seen.{state_of};
 ghost use Rattle.buffer.specs.Sound.{IsSound};
 
+use crate::layered_text::LayeredText;
 use arrayvec::ArrayVec;
 use edit_history::Steps;
 use followers::Followers;
@@ -18,7 +19,7 @@ use watch::{Listens, Seat, Watchers};
 /// A text with its marks, its steps back and its watchers. A call has the next number, also where it is refused.
 #[derive(Drop)]
 pub struct Buffer {
-    pub text: LineText,
+    pub text: LayeredText,
     pub followers: Followers,
     /// How many calls were numbered.
     pub count: u64,
@@ -40,6 +41,7 @@ impl Buffer {
             Err(TextRefusal::TooLong) => unreachable!(),
             Err(TextRefusal::NoMemory) => return Err(NoMemory),
         };
+        let text = LayeredText::of(alloc, text)?;
         // The table of watchers is made here, as a value: what a call hands out that has a box in it
         // must have been the caller's.
         let followers = Followers {
@@ -56,6 +58,13 @@ impl Buffer {
             count: 0,
             version: 0,
         })
+    }
+
+    /// Puts the layers of the text together, so that looks and edits go through fewer. Nothing that a call tells changes.
+    pub fn squash(&mut self) -> Result<(), NoMemory>
+        ensures { self.new ≡ self.old }
+    {
+        self.text.squash()
     }
 
     /// The whole text.

@@ -6,7 +6,7 @@ ghost use Rattle.machine.specs.Machine.{splice_at};
 ghost use Rattle.machine.specs.Answers.{hit_numbers, edited_reply};
 ghost use Rattle.followers.specs.Following.{splice_by, change_of};
 
-use line_text::LineText;
+use crate::layered_text::LayeredText;
 use machine::{HitNumbers, Reply};
 use patch::Change;
 use points::{HitCounts, MAX_UNITS, NoMemory, Range, Splice, Units};
@@ -14,7 +14,7 @@ use points::{HitCounts, MAX_UNITS, NoMemory, Range, Splice, Units};
 /// Replaces the units from one offset up to another. The answer is the change, with its places in the text before it
 /// and after it.
 pub(crate) fn change(
-    text: &mut LineText,
+    text: &mut LayeredText,
     from: usize,
     to: usize,
     old_text: Units,
@@ -31,7 +31,7 @@ pub(crate) fn change(
 {
     let start = text.point_at(from);
     let old_end = text.point_at(to);
-    text.put(from, to, new_text.as_slice())?;
+    text.put(from, to, &new_text)?;
     let new_end = text.point_at(from + new_text.len());
     Ok(Change {
         old_range: Range::new(start, old_end),

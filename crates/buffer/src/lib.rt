@@ -6,6 +6,7 @@
 
 mod buffer;
 mod change;
+mod layered_text;
 mod marks;
 mod play;
 mod text;
@@ -13,3 +14,4 @@ mod undo;
 mod watch_calls;
 
 pub use buffer::Buffer;
+pub use layered_text::LayeredText;

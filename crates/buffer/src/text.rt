@@ -48,8 +48,8 @@ impl Buffer {
         ensures count { self.old.count ≤ self.new.count }
     {
         let (from, to) = self.text.span(range);
-        let units = shown(self.text.slice(from, to), limit as usize);
-        let text = String::from_utf16_lossy(alloc, units)?;
+        let units = self.text.units(from, to)?;
+        let text = String::from_utf16_lossy(alloc, shown(units.as_slice(), limit as usize))?;
         Ok(Reply::Text {
             at: self.numbered(),
             text: Text::new(text),
@@ -96,8 +96,7 @@ impl Buffer {
         ensures told { self.new.followers.watchers.told ≤ self.new.count }
         ensures stands { Stands (λ s. ⟦<Seat as Listens>⟧.kept s) self.new.followers.watchers.told self.new.followers.watchers.seats.items }
     {
-        let mut old_text = Units::new(alloc);
-        old_text.append(self.text.slice(from, to))?;
+        let old_text = self.text.units(from, to)?;
         let change = change(&mut self.text, from, to, old_text, new_text)?;
         let place = splice_by(&change);
         let hits = self.followers.edited(change);

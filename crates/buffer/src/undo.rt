@@ -11,8 +11,8 @@ ghost use Rattle.buffer.specs.Sound.{IsSound, Leads};
 
 use crate::buffer::Buffer;
 use crate::change::{change, edited_reply, splice_by};
+use crate::layered_text::LayeredText;
 use followers::Replacement;
-use line_text::LineText;
 use machine::{CallRefusal, Reply};
 use patch::Change;
 use points::{LAST, MAX_UNITS, NoMemory};
@@ -63,7 +63,7 @@ impl Buffer {
 }
 
 // Makes a replacement where its old units stand.
-fn put_in(text: &mut LineText, step: Replacement) -> Result<Change, NoMemory>
+fn put_in(text: &mut LayeredText, step: Replacement) -> Result<Change, NoMemory>
     requires stands { (u : List ℕ) × Leads step.start step.old_text step.new_text text.old u }
     requires short { length text.old ≤ MAX_UNITS }
     ensures ok { OnOk result (let i = unwrap_or (offset_of text.old step.start) 0 in
@@ -73,7 +73,7 @@ fn put_in(text: &mut LineText, step: Replacement) -> Result<Change, NoMemory>
         splice_by c ≡ splice_at text.old i (i + length step.old_text) step.new_text) }
     ensures start { IfOk result (λ c. c.new_range.start ≡ c.old_range.start) }
 {
-    let from = text.offset_of(step.start).unwrap_or(0);
+    let from = text.offset_of(step.start);
     let to = from + step.old_text.len();
     change(text, from, to, step.old_text, step.new_text)
 }

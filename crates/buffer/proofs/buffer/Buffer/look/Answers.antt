@@ -12,5 +12,5 @@ pub returns-clause-ok : goal.returns-clause-ok
 returns-clause-ok g c =
     let s : State = state_of c.args.self.now in
     same_answer s (look c.args.range c.args.limit) _ _ _
-    (look_shows s c.args.range c.args.limit c.span-from.result.0 c.span-from.result.1 _ _ c.span-from.ensures.from c.span-from.ensures.to (c.shown-units.ensures ∙ ap (shown c.args.limit) c.slice.ensures) refl)
+    (look_shows s c.args.range c.args.limit c.span-from.result.0 c.span-from.result.1 _ _ c.span-from.ensures.from c.span-from.ensures.to (c.shown.ensures ∙ ap (shown c.args.limit) (c.as_slice.ensures ∙ c.in_ok-units.ensures)) refl)
     (ap (λ b. state_of b) c.numbered.ensures.new) (rw (c.numbered.ensures.number, c.new.ensures, c.in_ok-text.ensures) refl)

@@ -17,7 +17,7 @@ returns-clause-state g c =
     let s : State = state_of c.args.self.now in
     let i : ℕ = c.args.from in
     let j : ℕ = c.args.to in
-    let old : c.append.new.self ≡ between s.text i j = c.in_ok-append.ensures.ok ∙ (ap (λ (u : List ℕ). u ++ c.slice.result.now) c.new-old_text.ensures ∙ c.slice.ensures) in
+    let old : c.in_ok-old_text.old_text ≡ between s.text i j = c.in_ok-old_text.ensures in
     let made : Change = change_of s i j c.args.new_text in
     let texts = c.in_ok-change.ensures.texts ∙ ap (λ (u : List ℕ). record { start = point_at s.text i; old = u; new = c.args.new_text }) old in
     let u : State = counted (with_step (made ∷ []) (changed s i j c.args.new_text)) in

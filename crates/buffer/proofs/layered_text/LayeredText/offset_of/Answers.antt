@@ -1,0 +1,15 @@
+use Rattle.std.proofs.Common.{◌≡◌, ℕ, List, Some, refl, sym, ap, ◌∙◌}
+use Rattle.chains.specs.declared.spot.Spot.{Spot}
+use Rattle.chains.specs.Layered.{whole_text}
+use Rattle.points.proofs.OffsetLemmas.{offset_of-at}
+use Rattle.layers.proofs.BuildLemmas.{found_spot}
+use Rattle.buffer.proofs.layered_text.LayeredText.offset_of.Goals as goal
+
+pub returns : goal.returns
+returns c =
+    let t : List ℕ = c.args.self.now in
+    let same : whole_text c.look.result.now ≡ t = ap whole_text c.look.ensures ∙ c.self.view_is in
+    let h = c.requires in
+    let within = h.within in
+    let spot = found_spot t (whole_text c.look.result.now) same c.args.point c.args.point refl c.spot_of.result c.spot_of.ensures h.offset within h.is in
+    offset_of-at t c.args.point h.offset within h.is ∙ ap Some (sym (ap (λ (s : Spot). s.offset) spot))

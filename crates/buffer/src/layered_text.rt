@@ -1,0 +1,173 @@
+//! The buffer's text. It stands in layers, so that an edit costs what it changes and not what the text has.
+ghost use Rattle.std.specs.Prelude.{◌≡◌, ◌+◌, ◌-◌, ◌<◌, ◌≤◌, length, slice_range, string_bytes, Some, IfOk, OnOk, OnErr};
+ghost use Rattle.points.specs.Text.{replaced, text_of};
+ghost use Rattle.points.specs.Place.{point_at, clip, offset_of, clipped_offset};
+ghost use Rattle.points.specs.MarkText.{IsPointOf};
+ghost use Rattle.points.specs.declared.limits.TheConstants.{MAX_UNITS};
+ghost use Rattle.places.specs.Placed.{free_of, top_id};
+ghost use Rattle.chains.specs.Layered.{whole_text};
+ghost use Rattle.layers.specs.Shelf.{top_layers, top_text};
+
+use layers::{NewLayer, Shelf, places_are_sound};
+use line_text::{LineText, TextRefusal};
+use points::{MAX_UNITS, NoMemory, Point, Range, Units};
+use std::alloc::Global;
+use std::marker::Model;
+
+/// A text in layers on a shelf, of which nobody holds an older state. Contracts see its units.
+#[derive(Drop)]
+pub struct LayeredText {
+    alloc: Global,
+    // After each call a place is free for the layer of the next.
+    shelf: Shelf,
+}
+
+impl Model for LayeredText {
+    ghost use Rattle.std.specs.Prelude.{ℕ, ◌<◌, List};
+    ghost use Rattle.places.specs.Placed.{free_of};
+    ghost use Rattle.layers.specs.Shelf.{top_text};
+
+    ghost Value = { List ℕ };
+
+    ghost view = { λ t. top_text t.shelf };
+
+    ghost invariant = { λ t. 0 < free_of t.shelf };
+}
+
+impl LayeredText {
+    /// This text as a base.
+    pub fn of(alloc: Global, text: LineText) -> Result<Self, NoMemory>
+        ensures { IfOk result (λ made. made ≡ text) }
+    {
+        let shelf = Shelf::new(alloc, text, 0)?;
+        Ok(LayeredText { alloc, shelf })
+    }
+
+    /// How many units there are, at most [`MAX_UNITS`].
+    pub fn len(&self) -> usize
+        ensures value { result ≡ length self.now }
+        ensures short { result ≤ MAX_UNITS }
+    {
+        self.shelf.look().len()
+    }
+
+    /// The point at an offset.
+    pub fn point_at(&self, offset: usize) -> Point
+        requires { offset ≤ length self.now }
+        ensures { result ≡ point_at self.now offset }
+    {
+        self.shelf.look().point_at(offset)
+    }
+
+    /// The offset of a point that the text has.
+    pub fn offset_of(&self, point: Point) -> usize
+        requires { IsPointOf self.now point }
+        ensures { offset_of self.now point ≡ Some result }
+    {
+        self.shelf.look().spot_of(point).offset as usize
+    }
+
+    /// The point that a point is clipped to: outside line endings and surrogate pairs, and not past the end.
+    pub fn clip(&self, point: Point) -> Point
+        ensures { result ≡ clip self.now point }
+    {
+        self.shelf.look().clip(point)
+    }
+
+    /// The offsets of the clipped ends of a range.
+    pub fn span(&self, range: Range) -> (usize, usize)
+        ensures from { result.0 ≡ clipped_offset self.now range.start }
+        ensures to { result.1 ≡ clipped_offset self.now range.end }
+        ensures order { result.0 ≤ result.1 }
+        ensures within { result.1 ≤ length self.now }
+    {
+        let (from, to) = self.shelf.look().span(range);
+        (from.offset as usize, to.offset as usize)
+    }
+
+    /// The units from one offset up to another, copied.
+    pub fn units(&self, from: usize, to: usize) -> Result<Units, NoMemory>
+        requires order { from ≤ to }
+        requires within { to ≤ length self.now }
+        ensures { IfOk result (λ units. units ≡ slice_range self.now from to) }
+    {
+        let mut units = Units::new(self.alloc);
+        self.shelf
+            .look()
+            .units(self.alloc, from, to, &mut units)?;
+        Ok(units)
+    }
+
+    /// The text, with U+FFFD in place of each surrogate that lacks its partner.
+    pub fn to_text(&self) -> Result<String, NoMemory>
+        ensures { IfOk result (λ text. string_bytes text ≡ text_of self.now) }
+    {
+        self.shelf.look().to_text(self.alloc)
+    }
+
+    /// Replaces the units from one offset up to another.
+    pub fn put(&mut self, from: usize, to: usize, new: &Units) -> Result<(), NoMemory>
+        requires order { from ≤ to }
+        requires within { to ≤ length self.old }
+        requires fits { length self.old + length new.now ≤ MAX_UNITS + (to - from) }
+        ensures ok { OnOk result (self.new ≡ replaced self.old from to new.now) }
+        ensures err { OnErr result (self.new ≡ self.old) }
+    {
+        let layer = changed(&self.shelf, from, to, new)?;
+        put_on_top(&mut self.shelf, layer);
+        Ok(())
+    }
+
+    /// Puts all layers above the base together, where there is more than one. The text stays.
+    pub fn squash(&mut self) -> Result<(), NoMemory>
+        ensures { self.new ≡ self.old }
+    {
+        if let Some(layer) = self.shelf.build_squash()? {
+            put_on_top(&mut self.shelf, layer);
+        }
+        Ok(())
+    }
+}
+
+// The layer that a replacement gives. Nobody asks for the version of a layer yet, so each has 0.
+fn changed(shelf: &Shelf, from: usize, to: usize, new: &Units) -> Result<NewLayer, NoMemory>
+    requires order { from ≤ to }
+    requires within { to ≤ length (top_text shelf.now) }
+    requires fits { length (top_text shelf.now) + length new.now ≤ MAX_UNITS + (to - from) }
+    ensures on { IfOk result (λ layer. layer.on ≡ top_id shelf.now) }
+    ensures text { IfOk result (λ layer. whole_text layer.layers ≡ replaced (top_text shelf.now) from to new.now) }
+{
+    let start = shelf.look().spot_at(from);
+    let end = shelf.look().spot_at(to);
+    let put = text_of(new)?;
+    match shelf.build_between(0, start, end, &put) {
+        Ok(layer) => Ok(layer),
+        Err(TextRefusal::TooLong) => unreachable!(),
+        Err(TextRefusal::NoMemory) => Err(NoMemory),
+    }
+}
+
+// The text of these units.
+fn text_of(units: &Units) -> Result<LineText, NoMemory>
+    requires { length units.now ≤ MAX_UNITS }
+    ensures { IfOk result (λ text. text ≡ units.now) }
+{
+    match LineText::from_units(units.try_clone()?) {
+        Ok(text) => Ok(text),
+        Err(TextRefusal::TooLong) => unreachable!(),
+        Err(TextRefusal::NoMemory) => Err(NoMemory),
+    }
+}
+
+// Installs a layer that was built on the top, and frees what nobody needs.
+fn put_on_top(shelf: &mut Shelf, layer: NewLayer)
+    requires still { layer.on ≡ top_id shelf.old }
+    requires room { 0 < free_of shelf.old }
+    ensures top { top_layers shelf.new ≡ layer.layers }
+    ensures room { 0 < free_of shelf.new }
+{
+    shelf.install(layer);
+    places_are_sound(shelf);
+    shelf.narrow();
+    shelf.collect();
+}
