@@ -92,9 +92,7 @@ impl LayeredText {
         ensures { IfOk result (λ units. units ≡ slice_range self.now from to) }
     {
         let mut units = Units::new(self.alloc);
-        self.shelf
-            .look()
-            .units(self.alloc, from, to, &mut units)?;
+        self.shelf.look().units(self.alloc, from, to, &mut units)?;
         Ok(units)
     }
 
