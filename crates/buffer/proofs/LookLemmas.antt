@@ -19,7 +19,7 @@ shown_of_first u limit =
     let before = get_or-take (limit + 1) u (k - 1) 0 (omega arith) in
     let at = get_or-take (limit + 1) u k 0 (omega arith) in
     let splits : splits_pair v k ≡ splits_pair u k = ap (λ (x : ℕ). is_high_surrogate x && is_low_surrogate (get_or v k 0)) before
-        ∙ ap (λ (x : ℕ). is_high_surrogate (get_or u (k - 1) 0) && is_low_surrogate x) at in
+    ∙ ap (λ (x : ℕ). is_high_surrogate (get_or u (k - 1) 0) && is_low_surrogate x) at in
     ap (λ (n : ℕ). take (if splits_pair v n then n - 1 else n) v) k_is
     ∙ (ap (λ (b : Bool). take (if b then k - 1 else k) v) splits
     ∙ take-take (if splits_pair u k then k - 1 else k) (limit + 1) u (few (splits_pair u k) k (limit + 1) (omega arith)))
