@@ -1,20 +1,26 @@
 //! From the bytes of a script to those of its transcript: they are read, the commands of the one session are answered
 //! in turn, and the replies are written.
-ghost use Rattle.std.specs.Prelude.{◌≡◌, ◌+◌, ◌<◌, [], ◌∷◌, length, true, Some, None, IfOk, IfErr, OnOk, OnErr};
+ghost use Rattle.std.specs.Prelude.{◌≡◌, ◌+◌, ◌<◌, ◌≤◌, [], length, true, Some, None, IfOk, IfErr, OnOk};
 ghost use Rattle.std.specs.List.{AllByRecursion};
-ghost use Rattle.points.specs.Text.{utf16_of, text_of};
+ghost use Rattle.points.specs.Text.{utf16_of};
+ghost use Rattle.machine.specs.Machine.{after};
 ghost use Rattle.machine.specs.Answers.{opening_text};
-ghost use Rattle.machine.specs.Bare.{is_plain, bare_after, bare_replies};
+ghost use Rattle.machine.specs.Bare.{is_plain};
+ghost use Rattle.machine.specs.Plain.{plain_replies, calls_of};
+ghost use Rattle.watch.specs.Seats.{Stands};
+ghost use Rattle.buffer.specs.Seen.{state_of};
+ghost use Rattle.buffer.specs.Sound.{IsSound};
 ghost use Rattle.script.specs.Limits.{IsWithinLimits};
 ghost use Rattle.script.specs.ScriptDocument.{script_place, IsRefusalAt};
 ghost use Rattle.buffer_cli.specs.Answered.{answered};
 ghost use Rattle.buffer_cli.specs.Run.{IsAnswer, IsLawfulRun};
 
-use crate::document::Document;
+use buffer::Buffer;
 use machine::{Command, Opening, Reply, Script, Sequence, Transcript, TranscriptEnd};
 use points::{LAST, NoMemory};
 use script::{ScriptRefusal, read_script, transcript_bytes};
 use std::alloc::Global;
+use watch::{Listens, Seat};
 
 /// The text of a lawful transcript of the script with these bytes.
 pub(crate) fn answer(alloc: Global, bytes: Vec<u8>) -> Result<Vec<u8>, ScriptRefusal>
@@ -38,36 +44,19 @@ fn perform(alloc: Global, script: &Script) -> Result<Transcript, NoMemory>
     requires { IsWithinLimits script.now }
     ensures { IfOk result (IsLawfulRun script.now) }
 {
-    let mut document = Document::open(alloc, opening_text(script))?;
+    let mut buffer = Buffer::open(alloc, opening_text(script))?;
     let session = &script.sessions.as_slice()[0];
-    let replies = answer_all(alloc, &mut document, session.as_slice())?;
-    let end = end_of(alloc, document)?;
-    let sessions = one_session(alloc, replies)?;
-    Ok(Transcript {
-        end,
-        sessions,
-        version: script.version,
-    })
-}
-
-/// The end of a run that leaves this document.
-fn end_of(alloc: Global, document: Document) -> Result<TranscriptEnd, NoMemory>
-    ensures count { IfOk result (λ end. end.count ≡ document.count) }
-    ensures text { IfOk result (λ end. end.text ≡ text_of document.text) }
-{
-    Ok(TranscriptEnd {
-        count: document.count(),
-        text: document.to_text(alloc)?,
-    })
-}
-
-/// The replies of one session alone.
-fn one_session(alloc: Global, replies: Vec<Reply>) -> Result<Sequence<Sequence<Reply>>, NoMemory>
-    ensures { IfOk result (λ sessions. sessions ≡ replies.items ∷ []) }
-{
+    let replies = answer_all(alloc, &mut buffer, session.as_slice())?;
     let mut sessions = Vec::new(alloc);
     sessions.push(Sequence::new(replies))?;
-    Ok(Sequence::new(sessions))
+    Ok(Transcript {
+        end: TranscriptEnd {
+            count: buffer.count,
+            text: buffer.to_text()?,
+        },
+        sessions: Sequence::new(sessions),
+        version: script.version,
+    })
 }
 
 /// The text that a script opens with.
@@ -84,30 +73,37 @@ fn opening_text(script: &Script) -> &str
 /// Answers these commands in turn.
 fn answer_all(
     alloc: Global,
-    document: &mut Document,
+    buffer: &mut Buffer,
     commands: &[Command],
 ) -> Result<Vec<Reply>, NoMemory>
-    requires count { document.old.count + length commands.now < LAST }
+    requires count { buffer.old.count + length commands.now < LAST }
     requires plain { AllByRecursion (λ c. is_plain c ≡ true) commands.now }
-    ensures replies { IfOk result (λ rs. rs.items ≡ bare_replies 1 document.old commands.now) }
-    ensures after { OnOk result (document.new ≡ bare_after document.old commands.now) }
+    requires sound { IsSound (state_of buffer.old) }
+    requires told { buffer.old.followers.watchers.told ≤ buffer.old.count }
+    requires stands { Stands (λ s. ⟦<Seat as Listens>⟧.kept s) buffer.old.followers.watchers.told buffer.old.followers.watchers.seats.items }
+    ensures replies { IfOk result (λ rs. rs.items ≡ plain_replies 1 [] (state_of buffer.old) [] commands.now) }
+    ensures after { OnOk result (state_of buffer.new ≡ after (state_of buffer.old) (calls_of commands.now)) }
 {
     let mut replies = Vec::new(alloc);
     for command in commands {
-        replies.push(answer_one(alloc, document, command)?)?;
+        replies.push(answer_one(alloc, buffer, command)?)?;
     }
     Ok(replies)
 }
 
-fn answer_one(alloc: Global, document: &mut Document, command: &Command) -> Result<Reply, NoMemory>
-    requires count { document.old.count < LAST }
+fn answer_one(alloc: Global, buffer: &mut Buffer, command: &Command) -> Result<Reply, NoMemory>
+    requires count { buffer.old.count < LAST }
     requires plain { is_plain command.now ≡ true }
-    ensures ok { IfOk result (λ reply. (document.new, reply) ≡ answered document.old command.now) }
-    ensures err { OnErr result (document.new ≡ document.old) }
+    requires sound { IsSound (state_of buffer.old) }
+    requires told { buffer.old.followers.watchers.told ≤ buffer.old.count }
+    requires stands { Stands (λ s. ⟦<Seat as Listens>⟧.kept s) buffer.old.followers.watchers.told buffer.old.followers.watchers.seats.items }
+    ensures ok { IfOk result (λ reply. (state_of buffer.new, reply) ≡ answered (state_of buffer.old) command.now) }
+    ensures told { buffer.new.followers.watchers.told ≤ buffer.new.count }
+    ensures stands { Stands (λ s. ⟦<Seat as Listens>⟧.kept s) buffer.new.followers.watchers.told buffer.new.followers.watchers.seats.items }
 {
     match command {
-        Command::Edit { range, text } => document.edit(*range, text.as_str()),
-        Command::Text { range, limit } => document.look(alloc, *range, *limit),
+        Command::Edit { range, text } => buffer.edit(alloc, *range, text.as_str()),
+        Command::Text { range, limit } => buffer.look(alloc, *range, *limit),
         // The other words aren't built yet, and their scripts are refused.
         _ => unreachable!(),
     }

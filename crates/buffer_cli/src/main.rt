@@ -1,13 +1,12 @@
 //! The program: it runs a script from standard input, and writes its transcript to standard output.
 //!
 //! A run goes through these modules: `input` reads the script's bytes, `answer` turns them into those
-//! of the transcript, with `document` as the text that the commands edit, and `output` writes them.
+//! of the transcript by calls of the buffer, and `output` writes them.
 //! `run` joins them, and its contract says what the program does.
 #![tactic(auto)]
 
 mod adapters;
 mod answer;
-mod document;
 mod input;
 mod output;
 mod run;

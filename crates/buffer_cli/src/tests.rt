@@ -1,8 +1,8 @@
 //! The top call over sources and sinks in memory, the adapters over readers and writers, and the lines of the statuses.
 use crate::adapters::{Reading, Writing};
-use crate::document::Document;
 use crate::{Status, run_script};
-use machine::{CallRefusal, Reply};
+use buffer::Buffer;
+use machine::{CallRefusal, Command, Reply, Text};
 use outer::{MemSink, MemSource, Sink, Source, SureSink, SureSource};
 use points::{Point, Range};
 use script::ScriptRule;
@@ -190,11 +190,19 @@ fn refuses_an_edit_past_the_limit(rt: HostRuntime) -> Result<(), Fail> {
         .ok_or("letters")?;
     let origin = Point { row: 0, column: 0 };
     let start = Range::new(origin, origin);
-    let mut document = Document::open(alloc, "")?;
-    let first = document.edit(start, letters.as_str())?;
+    let mut buffer = Buffer::open(alloc, "")?;
+    let fill = Command::Edit {
+        range: start,
+        text: Text::from_str(alloc, letters.as_str())?,
+    };
+    let first = buffer.play(alloc, &fill)?;
     assert!(rt; matches!(first, Reply::Edited { at: 1, .. }));
-    assert!(rt; document.count() < 9);
-    let second = document.edit(start, "b")?;
+    assert!(rt; buffer.count < 9);
+    let more = Command::Edit {
+        range: start,
+        text: Text::from_str(alloc, "b")?,
+    };
+    let second = buffer.play(alloc, &more)?;
     assert!(rt;
         matches!(
             second,
@@ -204,8 +212,12 @@ fn refuses_an_edit_past_the_limit(rt: HostRuntime) -> Result<(), Fail> {
             }
         )
     );
-    assert!(rt; document.count() < 9);
-    let third = document.look(alloc, start, 1)?;
+    assert!(rt; buffer.count < 9);
+    let look = Command::Text {
+        range: start,
+        limit: 1,
+    };
+    let third = buffer.play(alloc, &look)?;
     assert!(rt;
         matches!(
             third,
@@ -216,7 +228,7 @@ fn refuses_an_edit_past_the_limit(rt: HostRuntime) -> Result<(), Fail> {
             }
         )
     );
-    assert_eq!(rt; document.to_text(alloc)?.as_str(), letters.as_str());
+    assert_eq!(rt; buffer.to_text()?.as_str(), letters.as_str());
     Ok(())
 }
 

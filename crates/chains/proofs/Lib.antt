@@ -11,7 +11,7 @@ pub mod ChainLemmas
 pub mod SizeLemmas
 pub mod SpotLemmas
 pub mod WalkLemmas
-pub mod LineLemmas
 pub mod ChangeLemmas
 pub mod StackLemmas
+pub mod LineLemmas
 pub mod FlattenLemmas

@@ -7,5 +7,5 @@ pub mod Squash
 pub mod Walking
 pub mod Chain
 pub mod LeadsDown
-pub mod Lines
 pub mod Changes
+pub mod Lines

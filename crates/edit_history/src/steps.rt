@@ -52,6 +52,20 @@ impl Steps {
         self.past.push_back(change)
     }
 
+    /// The change that [`undo`](Self::undo) takes back.
+    pub fn to_undo(&self) -> Option<&Change>
+        ensures { option_copied result ≡ next_of self.now.past }
+    {
+        self.past.back()
+    }
+
+    /// The change that [`redo`](Self::redo) makes again.
+    pub fn to_redo(&self) -> Option<&Change>
+        ensures { option_copied result ≡ next_of self.now.future }
+    {
+        self.future.back()
+    }
+
     /// The change to take back, which can then be made again.
     pub fn undo(&mut self) -> Option<&Change>
         ensures* steps { sem 𝓛 (EndsAs self.entry (undone self.old)) }

@@ -135,8 +135,8 @@ pub(crate) fn starts_of(alloc: Global, units: &[u16]) -> Result<Vec<u32>, NoMemo
     Ok(starts)
 }
 
-// How many line feeds there are.
-fn count_feeds(units: &[u16]) -> usize
+/// How many line feeds there are.
+pub(crate) fn count_feeds(units: &[u16]) -> usize
     ensures { result ≡ count_by is_lf units.now }
 {
     units.iter().filter(|unit| **unit == LINE_FEED).count()
@@ -179,9 +179,9 @@ fn edit_units(units: &mut Vec<u16>, from: usize, to: usize, text: &str, len: usi
     write_units(&mut units[from..from + len], text);
 }
 
-// Writes the starts that the units `written` at offset `from` make in place of those from the
-// place `first` up to the place `last`, and moves the later ones, which stood behind offset `to`.
-fn edit_starts(
+/// Writes the starts that the units `written` at offset `from` make in place of those from the
+/// place `first` up to the place `last`, and moves the later ones, which stood behind offset `to`.
+pub(crate) fn edit_starts(
     starts: &mut Vec<u32>,
     first: usize,
     last: usize,

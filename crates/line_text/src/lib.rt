@@ -10,6 +10,7 @@ mod encode;
 mod ending;
 mod lookup;
 mod parts;
+mod put;
 mod refusal;
 mod rows;
 mod text;

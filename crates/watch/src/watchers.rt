@@ -1,5 +1,5 @@
 //! The watchers that are attached to a text.
-ghost use Rattle.std.specs.Prelude.{◌≡◌, ◌+◌, ◌-◌, ◌<◌, ◌≤◌, ◌^◌, ◌↔◌, true, false, [], length, remove, MatchOption, IsErr, OnOk, OnErr};
+ghost use Rattle.std.specs.Prelude.{◌≡◌, ◌+◌, ◌-◌, ◌<◌, ◌≤◌, ◌^◌, ◌↔◌, ◌⊎◌, true, false, [], length, remove, MatchOption, IsErr, IfErr, OnOk, OnErr};
 ghost use Rattle.watch.specs.Log.{log_of};
 ghost use Rattle.watch.specs.Seats.{Holds, AreSeats, WasTold, Follows, AllFollow, Inserts, is_below, is_there, slot_of, RisesFrom, count_below, Stands, is_of};
 
@@ -38,6 +38,8 @@ impl Watchers {
         requires stands { Stands (λ s. ⟦<Seat as Listens>⟧.kept s) self.old.told self.old.seats.items }
         ensures taken { (result ≡ Err (WatchBack.WatchTaken watcher)) ↔ (is_there id self.old.seats.items ≡ true) }
         ensures full { (result ≡ Err (WatchBack.WatchFull watcher)) ↔ ((is_there id self.old.seats.items ≡ false) × (length self.old.seats.items ≡ MAX_WATCHERS)) }
+        ensures back { IfErr result (λ back. (back ≡ WatchBack.WatchTaken watcher) ⊎ (back ≡ WatchBack.WatchFull watcher)) }
+        ensures few { OnOk result (length self.old.seats.items < MAX_WATCHERS) }
         ensures err { OnErr result (self.new.seats.items ≡ self.old.seats.items) }
         ensures ok { OnOk result (Inserts (λ s. (s.id ≡ id) × (s.told ≡ 0) × (s.watcher ≡ watcher) × (s.opened.value ≡ watcher) × (log_of s.log ≡ []))
             (count_below id self.old.seats.items) self.old.seats.items self.new.seats.items) }

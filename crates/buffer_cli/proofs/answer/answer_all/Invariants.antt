@@ -1,5 +1,14 @@
+use Rattle.std.proofs.Common.{◌≡◌, ◌≤◌}
+use Rattle.watch.specs.Kept.{IsKept}
+use Rattle.watch.specs.Log.{log_of}
+use Rattle.watch.specs.Seats.{Stands}
+use Rattle.buffer.specs.Seen.{state_of}
 use Rattle.buffer_cli.proofs.RunLemmas.{RunsSoFar}
 use Rattle.buffer_cli.proofs.answer.answer_all.Given as goal
 
 abbrev pub invariant-loop-command : goal.invariant-loop-command
-invariant-loop-command l = RunsSoFar l.initial.document l.document l.replies.items l.commands l.command-index
+invariant-loop-command g l = record {
+  runs : RunsSoFar (state_of l.initial.buffer) (state_of l.buffer) l.replies.items l.commands l.command-index;
+  told : l.buffer.followers.watchers.told ≤ l.buffer.count;
+  stands : Stands (λ s. (s.watcher.ptr ≡ s.opened.value.ptr) × (s.watcher.vtable ≡ s.opened.value.vtable) × IsKept ((goal.Watcher-dyn g (s.watcher.vtable, s.watcher.value)).count_of s.watcher.value) ((goal.Watcher-dyn g (s.watcher.vtable, s.watcher.value)).list_of s.watcher.value) ((goal.Watcher-dyn g (s.opened.value.vtable, s.opened.value.value)).count_of s.opened.value.value) ((goal.Watcher-dyn g (s.opened.value.vtable, s.opened.value.value)).list_of s.opened.value.value) s.told (log_of s.log)) l.buffer.followers.watchers.told l.buffer.followers.watchers.seats.items;
+}

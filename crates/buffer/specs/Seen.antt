@@ -1,0 +1,23 @@
+-- What contracts see in a buffer: the plain machine's state.
+use Rattle.std.specs.Prelude.{◌+◌}
+use Rattle.machine.specs.declared.reply.Reply.{Reply}
+use Rattle.machine.specs.Machine.{State, Call, step}
+use Rattle.machine.specs.Answers.{reply_of}
+use Rattle.followers.specs.Following.{steps_of, watchings}
+use Rattle.buffer.specs.declared.buffer.Buffer.{Buffer}
+
+-- the state after a call, and the reply to it in a transcript of version 1
+abbrev pub answered : State → Call → State × Reply
+answered s call = ((step s call).0, reply_of 1 (s.count + 1) (step s call).1)
+
+module _ {X : Type 0} {D : X → Type 0} where
+  abbrev pub state_of : Buffer X D → State
+  state_of b = record {
+    text = b.text;
+    marks = b.followers.marks;
+    past = steps_of b.followers.steps.past;
+    future = steps_of b.followers.steps.future;
+    watchers = watchings b.followers.watchers.seats.items;
+    count = b.count;
+    version = b.version;
+  }

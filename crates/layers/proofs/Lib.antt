@@ -1,0 +1,5 @@
+pub mod GroundLemmas
+pub mod ShelfLemmas
+pub mod BuildLemmas
+pub mod LawLemmas
+pub mod HandLemmas

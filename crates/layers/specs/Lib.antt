@@ -1,0 +1,4 @@
+pub mod Unplaced
+pub mod Building
+pub mod Shelf
+pub mod Reading
