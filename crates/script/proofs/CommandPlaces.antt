@@ -193,8 +193,8 @@ or_no_more true = refl
 or_no_more false = refl
 
 -- its shape is broken where it has a member beside the word
-pub bare_shape : (d : Data) (bare : Bool) → bare ≡ is_bare d → bare ≡ true → not (member_count d == 1) ≡ is_misshapen false d
-bare_shape d bare is h = sym ((bare_word d (sym is ∙ h)).1.shape ∙ or_no_more (not (member_count d == 1)))
+pub bare_shape : (d : Data) (bare : Bool) (members : ℕ) → bare ≡ is_bare d → bare ≡ true → members ≡ member_count d → not (members == 1) ≡ is_misshapen false d
+bare_shape d bare members is h count = ap (λ n. not (n == 1)) count ∙ sym ((bare_word d (sym is ∙ h)).1.shape ∙ or_no_more (not (member_count d == 1)))
 
 -- a command that was read and has no members
 record IsBareOf (d : Data) (c : Command) : Type 0 where
