@@ -213,9 +213,12 @@ read|{\"do\":\"text\",\"range\":[3,4,3,4],\"limit\":0}\n\
 1 1 BadShape|{\"do\":\"text\",\"range\":null,\"limit\":0}\n\
 1 1 BadShape|{\"do\":\"text\",\"range\":[[0,0],[0,0]],\"limit\":0}\n\
 1 2 BadShape|{\"do\":\"edit\",\"range\":[0,0,0,0],\"text\":\"\"},{\"do\":\"edit\",\"range\":[0,0,0],\"text\":\"\"}\n\
-1 2 BadShape|{\"do\":\"edit\",\"range\":[0,0,0,0],\"text\":\"\"},{\"do\":\"undo\"}\n\
-1 2 BadShape|{\"do\":\"edit\",\"range\":[0,0,0,0],\"text\":\"\"},{\"do\":\"redo\"}\n\
-1 2 BadShape|{\"do\":\"edit\",\"range\":[0,0,0,0],\"text\":\"\"},{\"do\":\"squash\"}\n\
+read|{\"do\":\"edit\",\"range\":[0,0,0,0],\"text\":\"\"},{\"do\":\"undo\"}\n\
+1 1 BadShape|{\"do\":\"undo\",\"id\":0}\n\
+read|{\"do\":\"edit\",\"range\":[0,0,0,0],\"text\":\"\"},{\"do\":\"redo\"}\n\
+1 1 BadShape|{\"do\":\"redo\",\"id\":0}\n\
+read|{\"do\":\"edit\",\"range\":[0,0,0,0],\"text\":\"\"},{\"do\":\"squash\"}\n\
+1 1 BadShape|{\"do\":\"squash\",\"id\":0}\n\
 1 2 BadShape|{\"do\":\"edit\",\"range\":[0,0,0,0],\"text\":\"\"},{\"do\":\"take\",\"snapshot\":0}\n\
 1 2 BadShape|{\"do\":\"edit\",\"range\":[0,0,0,0],\"text\":\"\"},{\"do\":\"release\",\"snapshot\":0}\n\
 1 2 BadShape|{\"do\":\"edit\",\"range\":[0,0,0,0],\"text\":\"\"},{\"do\":\"read\",\"snapshot\":0,\"reads\":[]}\n\
@@ -239,7 +242,8 @@ read|{\"do\":\"text\",\"range\":[3,4,3,4],\"limit\":0}\n\
 1 1 BadNumber|{\"do\":\"edit\",\"range\":[1,0,0,0],\"text\":\"\"},{\"do\":\"undo\"}\n\
 1 2 BadShape|{\"do\":\"edit\",\"range\":[0,0,0,0],\"text\":\"\"},null,{\"do\":\"text\",\"range\":[0,0,0,0],\"limit\":-1}\n\
 1 3 BadNumber|{\"do\":\"edit\",\"range\":[0,0,0,0],\"text\":\"\"},{\"do\":\"edit\",\"range\":[0,0,0,0],\"text\":\"\"},{\"do\":\"text\",\"range\":[0,0,0,0],\"limit\":-1},0\n\
-1 2 BadShape|{\"do\":\"text\",\"range\":[0,0,0,0],\"limit\":0},{\"do\":\"undo\"},{\"do\":\"text\",\"range\":[0,0,0,0],\"limit\":-1}\n\
+1 3 BadNumber|{\"do\":\"text\",\"range\":[0,0,0,0],\"limit\":0},{\"do\":\"undo\"},{\"do\":\"text\",\"range\":[0,0,0,0],\"limit\":-1}\n\
+1 2 BadShape|{\"do\":\"text\",\"range\":[0,0,0,0],\"limit\":0},{\"do\":\"unwatch\"},{\"do\":\"text\",\"range\":[0,0,0,0],\"limit\":-1}\n\
 0 0 NotJson|{\"do\":\"text\",\"range\":[0,0,0,0],\"limit\":-1},";
 
 #[test]
@@ -282,6 +286,8 @@ const BAD_LOOK: &str = "{\"do\":\"text\",\"range\":[0,0,0,0],\"limit\":65537}";
 
 const UNDO: &str = "{\"do\":\"undo\"}";
 
+const BAD_UNDO: &str = "{\"do\":\"undo\",\"id\":0}";
+
 // This many times one command, and another behind them.
 fn repeated(alloc: Global, command: &str, count: usize, last: &str) -> Result<String, AllocError> {
     let mut commands = String::new(alloc);
@@ -308,7 +314,8 @@ fn counts_the_texts_that_a_script_asks_for(rt: HostRuntime) {
         (4_096, LOOK, "1 4097 TooMany"),
         (4_096, BAD_LOOK, "1 4097 TooMany"),
         (4_095, BAD_LOOK, "1 4096 BadNumber"),
-        (4_096, UNDO, "1 4097 BadShape"),
+        (4_096, BAD_UNDO, "1 4097 BadShape"),
+        (4_096, UNDO, "read"),
         (4_096, EDIT, "read"),
     ];
     for (count, last, wanted) in rows {
@@ -324,6 +331,7 @@ fn counts_the_commands_of_a_script(rt: HostRuntime) {
     let rows = [
         (65_535, EDIT, "read"),
         (65_536, BAD_LOOK, "1 65537 TooMany"),
+        (65_536, UNDO, "1 65537 TooMany"),
     ];
     for (count, last, wanted) in rows {
         assert!(rt;

@@ -1,5 +1,5 @@
 -- A run of the plain machine, command by command.
-use Rattle.std.proofs.Common.{◌≡◌, ℕ, zero, suc, ◌+◌, ◌<◌, List, [], ◌∷◌, ◌++◌, length, drop, get_or, true, refl, sym, subst, ap, ◌∙◌, arith, append_assoc, add-one, drop-cons, zero-add}
+use Rattle.std.proofs.Common.{◌≡◌, ℕ, zero, suc, ◌+◌, ◌<◌, ◌≤◌, List, [], ◌∷◌, ◌++◌, length, drop, get_or, true, refl, sym, subst, ap, ◌∙◌, arith, append_assoc, add-one, drop-cons, zero-add}
 use Rattle.std.specs.List.{AllByRecursion}
 use Rattle.std.proofs.lemmas.Bool.{false≢true}
 use Rattle.points.specs.Text.{utf16_of, text_of}
@@ -7,9 +7,8 @@ use Rattle.machine.specs.declared.command.Command.{Command}
 use Rattle.machine.specs.declared.command.Command.TheVariants as command
 use Rattle.machine.specs.declared.command.Script.{Script}
 use Rattle.machine.specs.declared.reply.Reply.{Reply}
-use Rattle.machine.specs.Machine.{State, after, opened, edit, look}
+use Rattle.machine.specs.Machine.{State, Call, step, after, opened, edit, look, undo, redo}
 use Rattle.machine.specs.Answers.{call_of}
-use Rattle.machine.specs.Bare.{is_plain}
 use Rattle.machine.specs.Lawful.{IsLawful}
 use Rattle.machine.specs.Plain.{after_call, calls_of, plain_reply, plain_replies}
 use Rattle.machine.proofs.History.{after_counts}
@@ -17,38 +16,45 @@ use Rattle.machine.proofs.OneSession.{plain_is_lawful}
 use Rattle.machine.proofs.StepLemmas.{step_counts}
 use Rattle.buffer.specs.Sound.{IsSound}
 use Rattle.buffer.proofs.SoundLemmas.{sound_step}
+use Rattle.script.specs.Limits.{has_built_word}
 use Rattle.buffer_cli.specs.Answered.{answered}
 
 -- what one command does to a run
 record IsNext (s : State) (c : Command) (cs : List Command) : Type 0 where
-  counts : (after_call s (call_of c)).count ≡ suc s.count
+  counts : (after_call s (call_of c)).count ≤ suc s.count
   replies : plain_replies 1 [] s [] (c ∷ cs) ≡ plain_reply 1 s [] [] c ∷ plain_replies 1 [] (after_call s (call_of c)) [] cs
   later : after s (calls_of (c ∷ cs)) ≡ after (after_call s (call_of c)) (calls_of cs)
   sound : IsSound s → IsSound (after_call s (call_of c))
 
-next_of : (s : State) (c : Command) (cs : List Command) → is_plain c ≡ true → IsNext s c cs
-next_of s (command.Edit range new) cs plain = record { counts = step_counts s (edit (range, utf16_of new)); replies = refl; later = refl; sound = sound_step s (edit (range, utf16_of new)) refl }
-next_of s (command.Text range limit) cs plain = record { counts = step_counts s (look range limit); replies = refl; later = refl; sound = sound_step s (look range limit) refl }
-next_of s _ cs plain = absurd (false≢true plain)
+one_more : (s : State) (call : Call) → (step s call).0.count ≤ suc s.count
+one_more s call = omega (arith, step_counts s call)
+
+next_of : (s : State) (c : Command) (cs : List Command) → has_built_word c ≡ true → IsNext s c cs
+next_of s (command.Edit range new) cs built = record { counts = one_more s (edit (range, utf16_of new)); replies = refl; later = refl; sound = sound_step s (edit (range, utf16_of new)) refl }
+next_of s (command.Text range limit) cs built = record { counts = one_more s (look range limit); replies = refl; later = refl; sound = sound_step s (look range limit) refl }
+next_of s command.Undo cs built = record { counts = one_more s undo; replies = refl; later = refl; sound = sound_step s undo refl }
+next_of s command.Redo cs built = record { counts = one_more s redo; replies = refl; later = refl; sound = sound_step s redo refl }
+next_of s command.Squash cs built = record { counts = omega arith; replies = refl; later = refl; sound = λ h. h }
+next_of s _ cs built = absurd (false≢true built)
 
 -- what holds of each command holds of the one with index i
-pub plain_at : (commands : List Command) (i : ℕ) (c : Command) → i < length commands → c ≡ get_or commands i c → AllByRecursion (λ d. is_plain d ≡ true) commands → is_plain c ≡ true
-plain_at [] i c within at all = absurd (omega arith)
-plain_at (d ∷ ds) zero c within at all = rw at all.0
-plain_at (d ∷ ds) (suc i) c within at all = plain_at ds i c (omega arith) at all.1
+pub built_at : (commands : List Command) (i : ℕ) (c : Command) → i < length commands → c ≡ get_or commands i c → AllByRecursion (λ d. has_built_word d ≡ true) commands → has_built_word c ≡ true
+built_at [] i c within at all = absurd (omega arith)
+built_at (d ∷ ds) zero c within at all = rw at all.0
+built_at (d ∷ ds) (suc i) c within at all = built_at ds i c (omega arith) at all.1
 
 -- the first i commands were answered, and the rest gives what all give
 pub record RunsSoFar (first now : State) (done : List Reply) (commands : List Command) (i : ℕ) : Type 0 where
   pub replied : done ++ plain_replies 1 [] now [] (drop i commands) ≡ plain_replies 1 [] first [] commands
   pub reached : after now (calls_of (drop i commands)) ≡ after first (calls_of commands)
-  pub counted : now.count ≡ first.count + i
+  pub counted : now.count ≤ first.count + i
   pub sound : IsSound now
 
 -- one more command was answered
-pub runs_more : (first now next : State) (done : List Reply) (commands : List Command) (i : ℕ) (c : Command) (reply : Reply) → i < length commands → c ≡ get_or commands i c → is_plain c ≡ true
+pub runs_more : (first now next : State) (done : List Reply) (commands : List Command) (i : ℕ) (c : Command) (reply : Reply) → i < length commands → c ≡ get_or commands i c → has_built_word c ≡ true
     → (next, reply) ≡ answered now c → RunsSoFar first now done commands i → RunsSoFar first next (done ++ reply ∷ []) commands (i + 1)
-runs_more first now next done commands i c reply within at plain is so_far =
-    let step : IsNext now c (drop (i + 1) commands) = next_of now c (drop (i + 1) commands) plain in
+runs_more first now next done commands i c reply within at built is so_far =
+    let step : IsNext now c (drop (i + 1) commands) = next_of now c (drop (i + 1) commands) built in
     let reached : next ≡ after_call now (call_of c) = ap (λ (p : State × Reply). p.0) is in
     let replied : reply ≡ plain_reply 1 now [] [] c = ap (λ (p : State × Reply). p.1) is in
     let rest : drop i commands ≡ c ∷ drop (i + 1) commands = rw add-one (drop-cons commands i c within ∙ ap (λ x. x ∷ drop (suc i) commands) (sym at)) in
@@ -56,7 +62,7 @@ runs_more first now next done commands i c reply within at plain is so_far =
     ap (λ (rs : List Reply). done ++ rs) (sym step.replies) ∙ (ap (λ (cs : List Command). done ++ plain_replies 1 [] now [] cs) (sym rest) ∙ so_far.replied) in
     let last : after (after_call now (call_of c)) (calls_of (drop (i + 1) commands)) ≡ after first (calls_of commands) =
     sym step.later ∙ (ap (λ (cs : List Command). after now (calls_of cs)) (sym rest) ∙ so_far.reached) in
-    let counted : next.count ≡ suc now.count = ap (λ (s : State). s.count) reached ∙ step.counts in
+    let counted : next.count ≤ suc now.count = subst (λ (s : State). s.count ≤ suc now.count) (sym reached) step.counts in
     record {
       replied = append_assoc done (reply ∷ []) (plain_replies 1 [] next [] (drop (i + 1) commands)) ∙ (rw (replied, reached) replies);
       reached = rw reached last;

@@ -5,12 +5,11 @@ ghost use Rattle.std.specs.List.{AllByRecursion};
 ghost use Rattle.points.specs.Text.{utf16_of};
 ghost use Rattle.machine.specs.Machine.{after};
 ghost use Rattle.machine.specs.Answers.{opening_text};
-ghost use Rattle.machine.specs.Bare.{is_plain};
 ghost use Rattle.machine.specs.Plain.{plain_replies, calls_of};
 ghost use Rattle.watch.specs.Seats.{Stands};
 ghost use Rattle.buffer.specs.Seen.{state_of};
 ghost use Rattle.buffer.specs.Sound.{IsSound};
-ghost use Rattle.script.specs.Limits.{IsWithinLimits};
+ghost use Rattle.script.specs.Limits.{IsWithinLimits, has_built_word};
 ghost use Rattle.script.specs.ScriptDocument.{script_place, IsRefusalAt};
 ghost use Rattle.buffer_cli.specs.Answered.{answered};
 ghost use Rattle.buffer_cli.specs.Run.{IsAnswer, IsLawfulRun};
@@ -77,7 +76,7 @@ fn answer_all(
     commands: &[Command],
 ) -> Result<Vec<Reply>, NoMemory>
     requires count { buffer.old.count + length commands.now < LAST }
-    requires plain { AllByRecursion (λ c. is_plain c ≡ true) commands.now }
+    requires built { AllByRecursion (λ c. has_built_word c ≡ true) commands.now }
     requires sound { IsSound (state_of buffer.old) }
     requires told { buffer.old.followers.watchers.told ≤ buffer.old.count }
     requires stands { Stands (λ s. ⟦<Seat as Listens>⟧.kept s) buffer.old.followers.watchers.told buffer.old.followers.watchers.seats.items }
@@ -91,9 +90,10 @@ fn answer_all(
     Ok(replies)
 }
 
+/// Answers one command. A squash has nothing to do where the text is in one piece.
 fn answer_one(alloc: Global, buffer: &mut Buffer, command: &Command) -> Result<Reply, NoMemory>
     requires count { buffer.old.count < LAST }
-    requires plain { is_plain command.now ≡ true }
+    requires built { has_built_word command.now ≡ true }
     requires sound { IsSound (state_of buffer.old) }
     requires told { buffer.old.followers.watchers.told ≤ buffer.old.count }
     requires stands { Stands (λ s. ⟦<Seat as Listens>⟧.kept s) buffer.old.followers.watchers.told buffer.old.followers.watchers.seats.items }
@@ -102,9 +102,7 @@ fn answer_one(alloc: Global, buffer: &mut Buffer, command: &Command) -> Result<R
     ensures stands { Stands (λ s. ⟦<Seat as Listens>⟧.kept s) buffer.new.followers.watchers.told buffer.new.followers.watchers.seats.items }
 {
     match command {
-        Command::Edit { range, text } => buffer.edit(alloc, *range, text.as_str()),
-        Command::Text { range, limit } => buffer.look(alloc, *range, *limit),
-        // The other words aren't built yet, and their scripts are refused.
-        _ => unreachable!(),
+        Command::Squash => Ok(Reply::Nothing),
+        _ => buffer.play(alloc, command),
     }
 }

@@ -1,7 +1,7 @@
 -- The rule that a command of what is built breaks, if any.
 use Rattle.std.proofs.Common.{◌≡◌, ◌+◌, ◌≤◌, ◌&&◌, ◌||◌, not, ℕ, List, [], ◌∷◌, Bool, true, false, cond, Option, Some, None, option_map, option_and_then, refl, sym, ap, subst, ◌∙◌, ◌⊎◌, inl, inr, arith}
 use Rattle.std.specs.Prelude.{nat_lt, nat_le, ◌==◌, codes}
-use Rattle.std.proofs.lemmas.Bool.{leb-true, le-leb, and_parts, not-false, false≢true}
+use Rattle.std.proofs.lemmas.Bool.{leb-true, le-leb, eqb-true, and_parts, not-false, false≢true}
 use Rattle.std.proofs.lemmas.Bool.Decides.{nat_tests}
 use Rattle.std.proofs.lemmas.Option.{none-some, option_and_then_some}
 use Rattle.points.specs.declared.range.Range.{Range}
@@ -9,6 +9,7 @@ use Rattle.machine.specs.declared.command.Command.{Command}
 use Rattle.machine.specs.declared.command.Command.TheVariants as command
 use Rattle.script.specs.declared.before.Before.{Before}
 use Rattle.script.specs.declared.limits.TheConstants.{MAX_COMMANDS, MAX_READINGS, MAX_SHOWN}
+use Rattle.script.specs.declared.refusal.ScriptRule.{ScriptRule}
 use Rattle.script.specs.declared.refusal.ScriptRule.TheVariants.{BadShape, TooMany, UnknownSnapshot, SnapshotTaken, BadNumber, BadEncoding, EmptyNeedle, BadName}
 use Rattle.script.specs.Limits.{is_reading}
 use Rattle.script.specs.Parts.{member_count, string_in, whole_of, whole_in, range_of, range_in, is_word}
@@ -16,13 +17,13 @@ use Rattle.script.specs.Reading.{counted, has_room, IsRead}
 use Rattle.script.specs.Rows as kind
 use Rattle.script.specs.Rows.{Kind}
 use Rattle.script.specs.Rules as rules
-use Rattle.script.specs.Rules.{next, command_tests, command_breaks, wrong_kind, wrong_number, wrong_encoding, empty_needle, wrong_name, field_breaks, is_too_many, needs_live, is_live, is_do, is_again, names_in, reads_in, is_unbuilt, is_misshapen, built_words, is_one_of, first_broken}
-use Rattle.script.specs.ScriptDocument.{edit_of, look_of, command_of}
+use Rattle.script.specs.Rules.{next, command_tests, command_breaks, wrong_kind, wrong_number, wrong_encoding, empty_needle, wrong_name, field_breaks, is_too_many, needs_live, is_live, is_do, is_bare, is_again, names_in, reads_in, is_unbuilt, is_misshapen, built_words, is_one_of, first_broken}
+use Rattle.script.specs.ScriptDocument.{edit_of, look_of, ranged_of, bare_of, command_of}
 use Rattle.script.specs.ScriptValue.{range_value}
 use Rattle.script.specs.TranscriptDocument.{whole}
 use Rattle.script.proofs.LimitLemmas.{behind_map}
 use Rattle.script.proofs.RuleLemmas.{few, or_false, there}
-use Rattle.script.proofs.ScriptExact.{test_some, either_some, word_exact, string_exact, range_exact, whole_exact}
+use Rattle.script.proofs.ScriptExact.{test_some, either_some, bare_cases, word_exact, string_exact, range_exact, whole_exact}
 use Rattle.serde_json.specs.Data.{Data, string}
 use Rattle.serde_json.specs.Find.{get, as_str}
 
@@ -136,15 +137,117 @@ look_read d c P members word e k =
     let limit = limit_there (get (codes "limit") d) n n_is in
     k x n is (record { members = members; word = word; range = range.0; found = range.1; limit = limit.0; small = limit.1 })))
 
--- a command that was read is an edit or a look
-read_cases : (d : Data) (c : Command) (P : Type 0) → command_of d ≡ Some c → ((x : Range) (s : List ℕ) → command.Edit x s ≡ c → IsEditOf d x s → P)
+ranged_cases : (d : Data) (c : Command) (P : Type 0) → (member_count d == 3) ≡ true → ranged_of d ≡ Some c → ((x : Range) (s : List ℕ) → command.Edit x s ≡ c → IsEditOf d x s → P)
     → ((x : Range) (n : ℕ) → command.Text x n ≡ c → IsLookOf d x n → P) → P
+unfolding ranged_of
+ranged_cases d c P members e edit look =
+    elim (either_some (is_word (string_in (codes "do") d) (codes "edit")) (edit_of d) _ c e) [
+      | inl one ↦ edit_read d c P members (word_exact _ _ one.0) one.1 edit
+      | inr other ↦ let two = test_some (is_word (string_in (codes "do") d) (codes "text")) (look_of d) c other in look_read d c P members (word_exact _ _ two.0) two.1 look
+    ]
+
+-- ---- commands without members
+
+-- of the tests of such a command, those of its shape and of what there is too much of
+abbrev two_tests : Bool → Bool → List (Bool × ScriptRule)
+two_tests a b = (a, BadShape) ∷ (b, TooMany) ∷ (false, UnknownSnapshot) ∷ (false, SnapshotTaken) ∷ (false, BadNumber) ∷ (false, BadEncoding) ∷ (false, EmptyNeedle) ∷ (false, BadName) ∷ []
+
+-- what the word of a value tells, where the command has it and no member beside it
+record IsBareWord (d : Data) (c : Command) : Type 0 where
+  read : bare_of d ≡ Some c
+  shows : is_reading c ≡ false
+  shape : is_misshapen false d ≡ (not (member_count d == 1) || false)
+  kinds : command_breaks wrong_kind true d ≡ (not (member_count d == 1) || false)
+  tests : (b : rules.Before) → command_tests false b d ≡ two_tests (is_misshapen false d) (is_too_many b d)
+  many : (b : Before) → is_too_many (counted b) d ≡ (nat_lt MAX_COMMANDS (b.commands + 1) || nat_lt MAX_READINGS (b.readings + 0) || false || false || false || false)
+  after : (old new : Before) → new.commands ≡ old.commands + 1 → new.readings ≡ old.readings + 0 → counted new ≡ next (counted old) d
+
+undo_word : (d : Data) → string_in (codes "do") d ≡ Some (codes "undo") → IsBareWord d command.Undo
+unfolding bare_of
+undo_word d word =
+    record { read = rw word refl; shows = refl; shape = rw word refl; kinds = rw word refl; tests = λ b. rw word refl; many = λ b. rw word refl; after = λ old new commands readings. rw (commands, readings, word) refl }
+
+redo_word : (d : Data) → string_in (codes "do") d ≡ Some (codes "redo") → IsBareWord d command.Redo
+unfolding bare_of
+redo_word d word =
+    record { read = rw word refl; shows = refl; shape = rw word refl; kinds = rw word refl; tests = λ b. rw word refl; many = λ b. rw word refl; after = λ old new commands readings. rw (commands, readings, word) refl }
+
+squash_word : (d : Data) → string_in (codes "do") d ≡ Some (codes "squash") → IsBareWord d command.Squash
+unfolding bare_of
+squash_word d word =
+    record { read = rw word refl; shows = refl; shape = rw word refl; kinds = rw word refl; tests = λ b. rw word refl; many = λ b. rw word refl; after = λ old new commands readings. rw (commands, readings, word) refl }
+
+-- the command of such a word
+bare_by : (d : Data) (u v w : Bool) → u ≡ is_word (string_in (codes "do") d) (codes "undo") → v ≡ is_word (string_in (codes "do") d) (codes "redo") → w ≡ is_word (string_in (codes "do") d) (codes "squash")
+    → (u || (v || (w || false))) ≡ true → (c : Command) × IsBareWord d c
+bare_by d true v w p q r h = (command.Undo, undo_word d (word_exact _ _ (sym p)))
+bare_by d false true w p q r h = (command.Redo, redo_word d (word_exact _ _ (sym q)))
+bare_by d false false true p q r h = (command.Squash, squash_word d (word_exact _ _ (sym r)))
+bare_by d false false false p q r h = absurd (false≢true h)
+
+bare_word : (d : Data) → is_bare d ≡ true → (c : Command) × IsBareWord d c
+bare_word d h = bare_by d _ _ _ refl refl refl h
+
+or_no_more : (a : Bool) → (a || false) ≡ a
+or_no_more true = refl
+or_no_more false = refl
+
+-- its shape is broken where it has a member beside the word
+pub bare_shape : (d : Data) (bare : Bool) (members : ℕ) → bare ≡ is_bare d → bare ≡ true → members ≡ member_count d → not (members == 1) ≡ is_misshapen false d
+bare_shape d bare members is h count = ap (λ n. not (n == 1)) count ∙ sym ((bare_word d (sym is ∙ h)).1.shape ∙ or_no_more (not (member_count d == 1)))
+
+-- a command that was read and has no members
+record IsBareOf (d : Data) (c : Command) : Type 0 where
+  members : member_count d ≡ 1
+  word : IsBareWord d c
+
+bare_again : (d : Data) (c : Command) → IsBareOf d c → command_of d ≡ Some c
 unfolding command_of
-read_cases d c P e edit look =
-    let t = test_some (member_count d == 3) _ c e in
-    elim (either_some (is_word (string_in (codes "do") d) (codes "edit")) (edit_of d) _ c t.1) [
-      | inl one ↦ edit_read d c P t.0 (word_exact _ _ one.0) one.1 edit
-      | inr other ↦ let two = test_some (is_word (string_in (codes "do") d) (codes "text")) (look_of d) c other in look_read d c P t.0 (word_exact _ _ two.0) two.1 look
+bare_again d c h = rw h.members h.word.read
+
+bare_left : (a m many : Bool) → a ≡ false → m ≡ many → first_broken (two_tests a m) ≡ cond many (Some TooMany) None
+bare_left a m many shape is = rw (shape, is) refl
+
+bare_broken : (b : rules.Before) (d : Data) (c : Command) (many : Bool) → IsBareOf d c → is_too_many b d ≡ many → first_broken (command_tests false b d) ≡ cond many (Some TooMany) None
+bare_broken b d c many h is =
+    let right : is_misshapen false d ≡ false = h.word.shape ∙ ap (λ n. not (n == 1) || false) h.members in
+    ap first_broken (h.word.tests b) ∙ bare_left (is_misshapen false d) (is_too_many b d) many right is
+
+bare_room : (b : Before) (d : Data) (c : Command) → IsBareOf d c → has_room b false ≡ true → is_too_many (counted b) d ≡ false
+bare_room b d c h room =
+    let parts = and_parts (nat_lt b.commands MAX_COMMANDS) (nat_le (b.readings + 0) MAX_READINGS) room in
+    h.word.many b ∙ few (b.commands + 1) (b.readings + 0) 0 0 0 (room_commands b parts.0) (leb-true _ _ parts.1) (omega arith) (omega arith) (omega arith)
+
+bare_full : (b : Before) (d : Data) (c : Command) → IsBareOf d c → has_room b false ≡ false → is_too_many (counted b) d ≡ true
+bare_full b d c h full = h.word.many b ∙ over b.commands (b.readings + 0) full
+
+bare_counted : (old new : Before) (d : Data) (c : Command) → IsBareOf d c → has_room old (is_reading c) ≡ true → new.commands ≡ old.commands + 1 → new.readings ≡ old.readings + rules.one_if (is_reading c) → IsRead old new d c
+bare_counted old new d c h room commands readings =
+    record {
+      kept = bare_broken (counted old) d c false h (bare_room old d c h (subst (λ s. has_room old s ≡ true) h.word.shows room));
+      is = bare_again d c h;
+      after = h.word.after old new commands (subst (λ s. new.readings ≡ old.readings + rules.one_if s) h.word.shows readings);
+    }
+
+bare_over : (b : Before) (d : Data) (c : Command) → IsBareOf d c → has_room b (is_reading c) ≡ false → first_broken (command_tests false (counted b) d) ≡ Some TooMany
+bare_over b d c h full = bare_broken (counted b) d c true h (bare_full b d c h (subst (λ s. has_room b s ≡ false) h.word.shows full))
+
+-- a command of such a word whose shape is right is read
+bare_unread : (d : Data) → is_bare d ≡ true → command_breaks wrong_kind true d ≡ false → command_of d ≡ None → ⊥
+bare_unread d bare kinds e =
+    let found = bare_word d bare in
+    let one = not-false (member_count d == 1) (sym (found.1.kinds ∙ or_no_more (not (member_count d == 1))) ∙ kinds) in
+    none-some found.0 (sym e ∙ bare_again d found.0 (record { members = eqb-true (member_count d) 1 one; word = found.1 }))
+
+-- a command that was read is an edit or a look, or has no members
+read_cases : (d : Data) (c : Command) (P : Type 0) → command_of d ≡ Some c → ((x : Range) (s : List ℕ) → command.Edit x s ≡ c → IsEditOf d x s → P)
+    → ((x : Range) (n : ℕ) → command.Text x n ≡ c → IsLookOf d x n → P) → (IsBareOf d c → P) → P
+unfolding command_of
+read_cases d c P e edit look bare =
+    elim (either_some (member_count d == 3) (ranged_of d) _ c e) [
+      | inl ranged ↦ ranged_cases d c P ranged.0 ranged.1 edit look
+      | inr other ↦ let one = test_some (member_count d == 1) (bare_of d) c other in
+        bare (record { members = eqb-true (member_count d) 1 one.0; word = bare_cases d c (IsBareWord d) one.1 (undo_word d) (redo_word d) (squash_word d) })
     ]
 
 edit_shape : (d : Data) (x : Range) (s : List ℕ) → IsEditOf d x s → (is_misshapen false d ≡ false) × (command_breaks wrong_number false d ≡ false)
@@ -162,11 +265,11 @@ three_left true a b e shape number fits full = let few : b ≡ false = fits refl
 three_left false a b e shape number fits full = let many : b ≡ true = full refl in rw (shape, many) refl
 
 edit_again : (d : Data) (x : Range) (s : List ℕ) → IsEditOf d x s → command_of d ≡ Some (command.Edit x s)
-unfolding command_of edit_of
+unfolding command_of ranged_of edit_of
 edit_again d x s h = rw (h.members, h.word, h.range, h.found, h.text) refl
 
 look_again : (d : Data) (x : Range) (n : ℕ) → IsLookOf d x n → command_of d ≡ Some (command.Text x n)
-unfolding command_of look_of
+unfolding command_of ranged_of look_of
 look_again d x n h = rw (h.members, h.word, h.range, h.found, h.limit, le-leb n MAX_SHOWN h.small) refl
 
 edit_members : (d : Data) (x : Range) (s : List ℕ) → IsEditOf d x s → HasMembers (codes "edit") (codes "range") (codes "text") d (range_value x) (string s)
@@ -193,12 +296,14 @@ command_counted old new d c e room commands readings =
     read_cases d c (IsRead old new d c) e
     (λ x s is h. subst (IsRead old new d) is (edit_counted old new d x s h (subst (λ v. has_room old (is_reading v) ≡ true) (sym is) room) commands (subst (λ v. new.readings ≡ old.readings + rules.one_if (is_reading v)) (sym is) readings)))
     (λ x n is h. subst (IsRead old new d) is (look_counted old new d x n h (subst (λ v. has_room old (is_reading v) ≡ true) (sym is) room) commands (subst (λ v. new.readings ≡ old.readings + rules.one_if (is_reading v)) (sym is) readings)))
+    (λ h. bare_counted old new d c h room commands readings)
 
 pub command_over : (b : Before) (d : Data) (c : Command) → command_of d ≡ Some c → has_room b (is_reading c) ≡ false → first_broken (command_tests false (counted b) d) ≡ Some TooMany
 command_over b d c e full =
     read_cases d c (first_broken (command_tests false (counted b) d) ≡ Some TooMany) e
     (λ x s is h. edit_broken (counted b) d x s true h (edit_full b d h.word (subst (λ v. has_room b (is_reading v) ≡ false) (sym is) full)))
     (λ x n is h. look_broken (counted b) d x n true h (look_full b d h.word (subst (λ v. has_room b (is_reading v) ≡ false) (sym is) full)))
+    (λ h. bare_over b d c h full)
 
 -- ---- commands that aren't read
 
@@ -206,10 +311,11 @@ pub shape_broken : (b : rules.Before) (d : Data) → is_misshapen false d ≡ tr
 shape_broken b d h = rw h refl
 
 -- the word of a command whose shape is right
-word_cases : (x y z : Bool) → ((not (x || (y || false)) && true) || z) ≡ false → ((x ≡ true) ⊎ (y ≡ true)) × (z ≡ false)
-word_cases true y z h = (inl refl, h)
-word_cases false true z h = (inr refl, h)
-word_cases false false z h = absurd (false≢true (sym h))
+word_cases : (x y k z : Bool) → ((not (x || (y || k)) && true) || z) ≡ false → ((x ≡ true) ⊎ ((y ≡ true) ⊎ (k ≡ true))) × (z ≡ false)
+word_cases true y k z h = (inl refl, h)
+word_cases false true k z h = (inr (inl refl), h)
+word_cases false false true z h = (inr (inr refl), h)
+word_cases false false false z h = absurd (false≢true (sym h))
 
 -- a member that has the kind that is asked for is there
 member_there : (k : Kind) (o : Option Data) → field_breaks wrong_kind true k o ≡ false → (v : Data) × (o ≡ Some v) × (wrong_kind k v ≡ false)
@@ -229,14 +335,14 @@ not_text d word = rw word refl
 
 -- its numbers are wrong, since it isn't read
 edit_number : (d r v : Data) (s : List ℕ) (o : Option Range) → HasMembers (codes "edit") (codes "range") (codes "text") d r v → (member_count d == 3) ≡ true → as_str v ≡ Some s → range_of r ≡ o → command_of d ≡ None → command_breaks wrong_number false d ≡ true
-unfolding command_of edit_of
+unfolding command_of ranged_of edit_of
 edit_number d r v s None h members text is e = rw (h.word_is, h.first, h.second, is) refl
 edit_number d r v s (Some x) h members text is e =
     let read : command_of d ≡ Some (command.Edit x s) = rw (members, h.word_is, h.first, h.second, is, text) refl in
     absurd (none-some _ (sym e ∙ read))
 
 look_number : (d r v : Data) (o : Option Range) (l : Option ℕ) → HasMembers (codes "text") (codes "range") (codes "limit") d r v → (member_count d == 3) ≡ true → range_of r ≡ o → whole_of MAX_SHOWN v ≡ l → command_of d ≡ None → command_breaks wrong_number false d ≡ true
-unfolding command_of look_of
+unfolding command_of ranged_of look_of
 look_number d r v None l h members is limit e = rw (h.word_is, h.first, h.second, is) refl
 look_number d r v (Some x) None h members is limit e = rw (h.word_is, h.first, h.second, is, limit) refl
 look_number d r v (Some x) (Some n) h members is limit e =
@@ -266,14 +372,18 @@ look_unread b d room shape kinds word e is =
     let number = look_number d range.0 limit.0 (range_of range.0) (whole_of MAX_SHOWN limit.0) has (not-false _ one.0) refl refl e in
     look_tests (counted b) d range.0 limit.0 has ∙ three_left room _ _ _ shape number (λ fits. look_room b d word (is ∙ fits)) (λ over. look_full b d word (is ∙ over))
 
+unread_by : (b : Before) (d : Data) → is_misshapen false d ≡ false → command_breaks wrong_kind true d ≡ false → command_of d ≡ None
+    → (is_word (string_in (codes "do") d) (codes "edit") ≡ true) ⊎ ((is_word (string_in (codes "do") d) (codes "text") ≡ true) ⊎ (is_bare d ≡ true))
+    → first_broken (command_tests false (counted b) d) ≡ cond (has_room b (is_do (codes "text") d)) (Some BadNumber) (Some TooMany)
+unread_by b d shape kinds e (inl edit) = let word = word_exact _ _ edit in edit_unread b d (has_room b (is_do (codes "text") d)) shape kinds word e (ap (has_room b) (sym (not_text d word)))
+unread_by b d shape kinds e (inr (inl look)) = look_unread b d (has_room b (is_do (codes "text") d)) shape kinds (word_exact _ _ look) e (ap (has_room b) (sym look))
+unread_by b d shape kinds e (inr (inr bare)) = absurd (bare_unread d bare kinds e)
+
 -- a command whose shape is right and that isn't read: there is too much of something, or its numbers are wrong
 pub unread_broken : (b : Before) (d : Data) → is_misshapen false d ≡ false → command_of d ≡ None → first_broken (command_tests false (counted b) d) ≡ cond (has_room b (is_do (codes "text") d)) (Some BadNumber) (Some TooMany)
 unread_broken b d shape e =
-    let parts = word_cases (is_word (string_in (codes "do") d) (codes "edit")) (is_word (string_in (codes "do") d) (codes "text")) (command_breaks wrong_kind true d) shape in
-    elim parts.0 [
-      | inl edit ↦ let word = word_exact _ _ edit in edit_unread b d (has_room b (is_do (codes "text") d)) shape parts.1 word e (ap (has_room b) (sym (not_text d word)))
-      | inr look ↦ look_unread b d (has_room b (is_do (codes "text") d)) shape parts.1 (word_exact _ _ look) e (ap (has_room b) (sym look))
-    ]
+    let parts = word_cases (is_word (string_in (codes "do") d) (codes "edit")) (is_word (string_in (codes "do") d) (codes "text")) (is_bare d) (command_breaks wrong_kind true d) shape in
+    unread_by b d shape parts.1 e parts.0
 
 -- ---- what the reader answers
 

@@ -8,7 +8,7 @@ use Rattle.points.specs.declared.limits.TheConstants.{MAX_UNITS}
 use Rattle.machine.specs.declared.command.Script.{Script}
 use Rattle.machine.specs.Answers.{opening_text}
 use Rattle.script.specs.Limits.{is_opening_within, is_bounded, is_within, IsWithinLimits}
-use Rattle.script.proofs.Readable.{IsReadableScript, each_plain}
+use Rattle.script.proofs.Readable.{IsReadableScript, each_built}
 
 -- the value behind a test that passed, and behind a map
 pub behind_test : {A : Type 0} (b : Bool) (o : Option A) (y : A) → cond b o None ≡ Some y → o ≡ Some y
@@ -31,4 +31,4 @@ opening_within (Some units) h = leb-true (length units) MAX_UNITS h
 pub within_limits : (s : Script) → IsReadableScript s → is_within s ≡ true → IsWithinLimits s
 within_limits s h is =
     let parts = and_parts (is_opening_within (opening_text s.opening)) (list_all is_bounded s.sessions) is in
-    record { version = h.version; one = h.one; commands = each_holds is_bounded s.sessions parts.1; plain = each_plain s.sessions h.commands; opening = opening_within (opening_text s.opening) parts.0 }
+    record { version = h.version; one = h.one; commands = each_holds is_bounded s.sessions parts.1; built = each_built s.sessions h.commands; opening = opening_within (opening_text s.opening) parts.0 }

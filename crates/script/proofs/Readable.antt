@@ -9,7 +9,7 @@ use Rattle.machine.specs.declared.command.Command.{Command}
 use Rattle.machine.specs.declared.command.Command.TheVariants as command
 use Rattle.machine.specs.declared.command.Script.{Script}
 use Rattle.machine.specs.Answers.{opening_text}
-use Rattle.machine.specs.Bare.{is_plain}
+use Rattle.script.specs.Limits.{has_built_word}
 use Rattle.script.specs.declared.limits.TheConstants.{MAX_SHOWN}
 use Rattle.script.specs.ScriptValue.{is_built}
 
@@ -22,6 +22,9 @@ pub record IsRangeWithin (r : Range) : Type 0 where
 abbrev pub IsReadable : Command → Type 0
 IsReadable (command.Edit range text) = IsRangeWithin range
 IsReadable (command.Text range limit) = IsRangeWithin range × (limit ≤ MAX_SHOWN)
+IsReadable command.Undo = Unit {0}
+IsReadable command.Redo = Unit {0}
+IsReadable command.Squash = Unit {0}
 IsReadable c = ⊥
 
 pub record IsReadableScript (s : Script) : Type 0 where
@@ -30,23 +33,26 @@ pub record IsReadableScript (s : Script) : Type 0 where
   pub opening : is_some (opening_text s.opening) ≡ true
   pub commands : AllByRecursion (AllByRecursion IsReadable) s.sessions
 
-pub command_built : (c : Command) → IsReadable c → is_plain c ≡ true
+pub command_built : (c : Command) → IsReadable c → has_built_word c ≡ true
 command_built (command.Edit range text) h = refl
 command_built (command.Text range limit) h = refl
+command_built command.Undo h = refl
+command_built command.Redo h = refl
+command_built command.Squash h = refl
 command_built c h = absurd h
 
-session_plain : (cs : List Command) → AllByRecursion IsReadable cs → AllByRecursion (λ c. is_plain c ≡ true) cs
-session_plain [] h = tt
-session_plain (c ∷ cs) h = (command_built c h.0, session_plain cs h.1)
+session_built : (cs : List Command) → AllByRecursion IsReadable cs → AllByRecursion (λ c. has_built_word c ≡ true) cs
+session_built [] h = tt
+session_built (c ∷ cs) h = (command_built c h.0, session_built cs h.1)
 
 all_hold : {A : Type 0} (P : A → Type 0) (test : A → Bool) → ((x : A) → P x → test x ≡ true) → (xs : List A) → AllByRecursion P xs → list_all test xs ≡ true
 all_hold P test each [] h = refl
 all_hold P test each (x ∷ xs) h = and_from (test x) (list_all test xs) (each x h.0) (all_hold P test each xs h.1)
 
-pub each_plain : (sessions : List (List Command)) → AllByRecursion (AllByRecursion IsReadable) sessions → AllByRecursion (λ cs. AllByRecursion (λ c. is_plain c ≡ true) cs) sessions
-each_plain [] h = tt
-each_plain (cs ∷ rest) h = (session_plain cs h.0, each_plain rest h.1)
+pub each_built : (sessions : List (List Command)) → AllByRecursion (AllByRecursion IsReadable) sessions → AllByRecursion (λ cs. AllByRecursion (λ c. has_built_word c ≡ true) cs) sessions
+each_built [] h = tt
+each_built (cs ∷ rest) h = (session_built cs h.0, each_built rest h.1)
 
 -- it is built
 pub readable_built : (s : Script) → IsReadableScript s → is_built s ≡ true
-readable_built s h = rw (eq-eqb (length s.sessions) 1 h.one, h.opening) (all_hold (AllByRecursion IsReadable) (list_all is_plain) (all_hold IsReadable is_plain command_built) s.sessions h.commands)
+readable_built s h = rw (eq-eqb (length s.sessions) 1 h.one, h.opening) (all_hold (AllByRecursion IsReadable) (list_all has_built_word) (all_hold IsReadable has_built_word command_built) s.sessions h.commands)

@@ -1,5 +1,5 @@
 -- The value of a script of what is built has no place that breaks a rule exactly where the script is within its limits.
-use Rattle.std.proofs.Common.{◌≡◌, ◌+◌, ◌≤◌, ◌++◌, ◌&&◌, ◌||◌, not, ℕ, List, [], ◌∷◌, length, map, drop, count_by, Bool, true, false, cond, Option, Some, None, option_map, is_some, refl, sym, subst, arith, length-append}
+use Rattle.std.proofs.Common.{◌≡◌, ◌+◌, ◌≤◌, ◌++◌, ◌&&◌, ◌||◌, not, ℕ, List, [], ◌∷◌, length, map, drop, count_by, Bool, true, false, cond, Option, Some, None, option_map, is_some, refl, sym, ap, subst, arith, length-append}
 use Rattle.std.specs.Prelude.{nat_lt, nat_le, ◌==◌, codes}
 use Rattle.std.specs.List.{AllByRecursion, list_all}
 use Rattle.std.specs.Option.{option_or}
@@ -10,7 +10,6 @@ use Rattle.points.specs.declared.limits.TheConstants.{MAX_UNITS}
 use Rattle.points.specs.declared.range.Range.{Range}
 use Rattle.points.specs.Text.{utf16_of}
 use Rattle.machine.specs.Answers.{opening_text}
-use Rattle.machine.specs.Bare.{is_plain}
 use Rattle.machine.specs.declared.command.Command.{Command}
 use Rattle.machine.specs.declared.command.Command.TheVariants as command
 use Rattle.machine.specs.declared.command.Opening.{Opening}
@@ -19,7 +18,7 @@ use Rattle.machine.specs.declared.command.Script.{Script}
 use Rattle.script.specs.declared.limits.TheConstants.{MAX_SESSIONS, MAX_COMMANDS, MAX_READINGS, MAX_SAVES, MAX_FINDS, MAX_SHOWN, MAX_WATCHES}
 use Rattle.script.specs.declared.refusal.ScriptRule.{ScriptRule}
 use Rattle.script.specs.declared.refusal.ScriptRule.TheVariants.{BadShape, TooMany, UnknownSnapshot, SnapshotTaken, BadNumber}
-use Rattle.script.specs.Limits.{is_opening_within, is_reading, is_bounded, is_within}
+use Rattle.script.specs.Limits.{has_built_word, is_opening_within, is_reading, is_bounded, is_within}
 use Rattle.script.specs.Parts.{member_count, count_items, whole_of, range_of}
 use Rattle.script.specs.ScriptDocument.{reading, script_of}
 use Rattle.script.specs.Rules.{Before, at_start, next, command_tests, command_breaks, wrong_kind, wrong_number, is_too_many, needs_live, is_live, is_do, document_tests, Fault, first_broken, fault_at, is_document, is_version_one, opening_breaks, are_sessions, sessions_in, opened_text, place_in_session, place_by, built_place, is_misshapen, is_misshapen_document, is_unbuilt_document}
@@ -50,16 +49,26 @@ record IsPlain (b : Before) : Type 0 where
 abbrev readings_of : Command → ℕ
 readings_of c = cond (is_reading c) 1 0
 
+-- a command that counts for these readings and for nothing else
+plain_few : (b : Before) (n : ℕ) → IsPlain b → b.commands + 1 ≤ MAX_COMMANDS → b.reading + n ≤ MAX_READINGS
+    → (nat_lt MAX_COMMANDS (b.commands + 1) || nat_lt MAX_READINGS (b.reading + n) || nat_lt MAX_SAVES (length (b.names ++ [])) || nat_lt MAX_FINDS (b.marks + 0) || nat_lt MAX_WATCHES (b.watches + 0) || false) ≡ false
+plain_few b n plain more readings =
+    few (b.commands + 1) (b.reading + n) (length (b.names ++ [])) (b.marks + 0) (b.watches + 0) more readings (omega (arith, plain.names, length-append b.names [])) (omega (arith, plain.finds)) (omega (arith, plain.watches))
+
 step_few : (b : Before) (c : Command) → IsReadable c → IsPlain b → b.commands + 1 ≤ MAX_COMMANDS → b.reading + readings_of c ≤ MAX_READINGS → is_too_many b (command_value c) ≡ false
-step_few b (command.Edit range text) h plain more readings =
-    few (b.commands + 1) (b.reading + 0) (length (b.names ++ [])) (b.marks + 0) (b.watches + 0) more readings (omega (arith, plain.names, length-append b.names [])) (omega (arith, plain.finds)) (omega (arith, plain.watches))
-step_few b (command.Text range limit) h plain more readings =
-    few (b.commands + 1) (b.reading + 1) (length (b.names ++ [])) (b.marks + 0) (b.watches + 0) more readings (omega (arith, plain.names, length-append b.names [])) (omega (arith, plain.finds)) (omega (arith, plain.watches))
+step_few b (command.Edit range text) h plain more readings = plain_few b 0 plain more readings
+step_few b (command.Text range limit) h plain more readings = plain_few b 1 plain more readings
+step_few b command.Undo h plain more readings = plain_few b 0 plain more readings
+step_few b command.Redo h plain more readings = plain_few b 0 plain more readings
+step_few b command.Squash h plain more readings = plain_few b 0 plain more readings
 step_few b c h plain more readings = absurd h
 
 step_passes : (all : Bool) (b : Before) (c : Command) → IsReadable c → is_too_many b (command_value c) ≡ false → first_broken (command_tests all b (command_value c)) ≡ None
 step_passes all b (command.Edit range text) h few = rw (few, range_again range h) refl
 step_passes all b (command.Text range limit) h few = rw (few, range_again range h.0, le-leb limit MAX_SHOWN h.1) refl
+step_passes all b command.Undo h few = rw few refl
+step_passes all b command.Redo h few = rw few refl
+step_passes all b command.Squash h few = rw few refl
 step_passes all b c h few = absurd h
 
 counts_first : (c : Command) (cs : List Command) → count_by is_reading (c ∷ cs) ≡ readings_of c + count_by is_reading cs
@@ -68,11 +77,20 @@ counts_first c cs = sum_by-cons (λ x. cond (is_reading x) 1 0) c cs
 reading_after : (b : Before) (c : Command) → IsReadable c → (next b (command_value c)).reading ≡ b.reading + readings_of c
 reading_after b (command.Edit range text) h = omega arith
 reading_after b (command.Text range limit) h = omega arith
+reading_after b command.Undo h = omega arith
+reading_after b command.Redo h = omega arith
+reading_after b command.Squash h = omega arith
 reading_after b c h = absurd h
 
+plain_more : (b after : Before) → IsPlain b → after.names ≡ b.names ++ [] → after.marks ≡ b.marks + 0 → after.watches ≡ b.watches + 0 → IsPlain after
+plain_more b after plain names marks watches = record { names = omega (arith, plain.names, ap length names, length-append b.names []); finds = omega (arith, plain.finds, marks); watches = omega (arith, plain.watches, watches) }
+
 plain_after : (b : Before) (c : Command) → IsReadable c → IsPlain b → IsPlain (next b (command_value c))
-plain_after b (command.Edit range text) h plain = record { names = omega (arith, plain.names, length-append b.names []); finds = omega (arith, plain.finds); watches = omega (arith, plain.watches) }
-plain_after b (command.Text range limit) h plain = record { names = omega (arith, plain.names, length-append b.names []); finds = omega (arith, plain.finds); watches = omega (arith, plain.watches) }
+plain_after b (command.Edit range text) h plain = plain_more b (next b (command_value (command.Edit range text))) plain refl refl refl
+plain_after b (command.Text range limit) h plain = plain_more b (next b (command_value (command.Text range limit))) plain refl refl refl
+plain_after b command.Undo h plain = plain_more b (next b (command_value command.Undo)) plain refl refl refl
+plain_after b command.Redo h plain = plain_more b (next b (command_value command.Redo)) plain refl refl refl
+plain_after b command.Squash h plain = plain_more b (next b (command_value command.Squash)) plain refl refl refl
 plain_after b c h plain = absurd h
 
 -- the commands of a session, one after another
@@ -158,7 +176,13 @@ room_back b commands readings saves finds watches h =
     let parts = few_back (nat_lt MAX_COMMANDS commands) (nat_lt MAX_READINGS readings) (nat_lt MAX_SAVES saves) (nat_lt MAX_FINDS finds) (nat_lt MAX_WATCHES watches) false h in
     (ltb-false _ _ parts.0, ltb-false _ _ parts.1)
 
-step_back : (all : Bool) (b : Before) (c : Command) → is_plain c ≡ true → first_broken (command_tests all b (command_value c)) ≡ None → IsPassed b c
+bare_back : (b : Before) (c : Command) → IsReadable c → readings_of c ≡ 0
+    → (nat_lt MAX_COMMANDS (b.commands + 1) || nat_lt MAX_READINGS (b.reading + 0) || nat_lt MAX_SAVES (length (b.names ++ [])) || nat_lt MAX_FINDS (b.marks + 0) || nat_lt MAX_WATCHES (b.watches + 0) || false) ≡ false → IsPassed b c
+bare_back b c readable none h =
+    let room = room_back b (b.commands + 1) (b.reading + 0) (length (b.names ++ [])) (b.marks + 0) (b.watches + 0) h in
+    record { readable = readable; commands = room.0; readings = omega (arith, room.1, none) }
+
+step_back : (all : Bool) (b : Before) (c : Command) → has_built_word c ≡ true → first_broken (command_tests all b (command_value c)) ≡ None → IsPassed b c
 step_back all b (command.Edit range text) built e =
     let tests = tests_pass all b (command_value (command.Edit range text)) e in
     let room = room_back b (b.commands + 1) (b.reading + 0) (length (b.names ++ [])) (b.marks + 0) (b.watches + 0) tests.0 in
@@ -168,6 +192,9 @@ step_back all b (command.Text range limit) built e =
     let room = room_back b (b.commands + 1) (b.reading + 1) (length (b.names ++ [])) (b.marks + 0) (b.watches + 0) tests.0 in
     let parts = or_false (not (is_some (range_of (range_value range)))) (not (is_some (whole_of MAX_SHOWN (whole limit))) || false) tests.1 in
     record { readable = (range_back range parts.0, limit_back limit (or_false (not (is_some (whole_of MAX_SHOWN (whole limit)))) false parts.1).0); commands = room.0; readings = room.1 }
+step_back all b command.Undo built e = bare_back b command.Undo tt refl (tests_pass all b (command_value command.Undo) e).0
+step_back all b command.Redo built e = bare_back b command.Redo tt refl (tests_pass all b (command_value command.Redo) e).0
+step_back all b command.Squash built e = bare_back b command.Squash tt refl (tests_pass all b (command_value command.Squash) e).0
 step_back all b c built e = absurd (false≢true built)
 
 -- what the commands of a session that break no rule have
@@ -176,12 +203,12 @@ record ArePassed (b : Before) (cs : List Command) : Type 0 where
   commands : b.commands + length cs ≤ MAX_COMMANDS
   readings : b.reading + count_by is_reading cs ≤ MAX_READINGS
 
-commands_back : (all : Bool) (session n : ℕ) (b : Before) (cs : List Command) → list_all is_plain cs ≡ true → b.commands ≤ MAX_COMMANDS → b.reading ≤ MAX_READINGS
+commands_back : (all : Bool) (session n : ℕ) (b : Before) (cs : List Command) → list_all has_built_word cs ≡ true → b.commands ≤ MAX_COMMANDS → b.reading ≤ MAX_READINGS
     → place_in_session all session n b (items_of (map command_value cs)) ≡ None → ArePassed b cs
 commands_back all session n b [] built commands readings e = record { readable = tt; commands = omega arith; readings = let none : count_by is_reading [] ≡ 0 = refl in omega arith }
 commands_back all session n b (c ∷ cs) built commands readings e =
     let parts = neither _ _ e in
-    let built_all = and_parts (is_plain c) (list_all is_plain cs) built in
+    let built_all = and_parts (has_built_word c) (list_all has_built_word cs) built in
     let own = step_back all b c built_all.0 (no_fault session n (command_tests all b (command_value c)) parts.0) in
     let after : (next b (command_value c)).reading ≡ b.reading + readings_of c = reading_after b c own.readable in
     let rest = commands_back all session (n + 1) (next b (command_value c)) cs built_all.1 own.commands (omega (arith, own.readings)) parts.1 in
@@ -228,7 +255,7 @@ version_is_one d h =
 abbrev made : ℕ → Opening → List (List Command) → Script
 made version o sessions = record { version = version; opening = o; sessions = sessions }
 
-parts_back : (all : Bool) (n : ℕ) (o : Opening) (sessions : List (List Command)) → length sessions ≡ 1 → is_some (opening_text o) ≡ true → list_all (list_all is_plain) sessions ≡ true
+parts_back : (all : Bool) (n : ℕ) (o : Opening) (sessions : List (List Command)) → length sessions ≡ 1 → is_some (opening_text o) ≡ true → list_all (list_all has_built_word) sessions ≡ true
     → place_by all (script_value (made n o sessions)) ≡ None → IsReadableScript (made n o sessions) × (is_within (made n o sessions) ≡ true)
 unfolding place_by
 parts_back all n (opening.Text text) (cs ∷ []) one built commands h =
@@ -238,7 +265,7 @@ parts_back all n (opening.Text text) (cs ∷ []) one built commands h =
     let version : (n == 1) ≡ true = version_is_one d (not-false (is_document d) (or_false (is_unbuilt_document d && not all) (not (is_document d)) document.0).1) in
     let units : length (utf16_of text) ≤ MAX_UNITS = ltb-false _ _ document.1 in
     let session = neither (place_in_session all 1 1 at_start (items_of (map command_value cs))) None own.1 in
-    let built_all = and_parts (list_all is_plain cs) true commands in
+    let built_all = and_parts (list_all has_built_word cs) true commands in
     let passed = commands_back all 1 1 at_start cs built_all.0 (omega arith) (omega arith) session.0 in
     let few : length cs ≤ MAX_COMMANDS = omega (arith, passed.commands) in
     let readings : count_by is_reading cs ≤ MAX_READINGS = omega (arith, passed.readings) in
@@ -251,8 +278,8 @@ parts_back all n o (cs ∷ ds ∷ rest) one built commands h = absurd (omega ari
 -- a script of what is built that breaks no rule is within the limits
 pub script_back : (all : Bool) (s : Script) → is_built s ≡ true → place_by all (script_value s) ≡ None → IsReadableScript s × (is_within s ≡ true)
 script_back all s built h =
-    let parts = and_parts (length s.sessions == 1) (is_some (opening_text s.opening) && list_all (list_all is_plain) s.sessions) built in
-    let more = and_parts (is_some (opening_text s.opening)) (list_all (list_all is_plain) s.sessions) parts.1 in
+    let parts = and_parts (length s.sessions == 1) (is_some (opening_text s.opening) && list_all (list_all has_built_word) s.sessions) built in
+    let more = and_parts (is_some (opening_text s.opening)) (list_all (list_all has_built_word) s.sessions) parts.1 in
     parts_back all s.version s.opening s.sessions (eqb-true _ _ parts.0) more.0 more.1 h
 
 -- ---- reading where no place breaks a rule

@@ -13,7 +13,7 @@ use Rattle.machine.specs.declared.command.Script.{Script}
 use Rattle.machine.specs.Answers.{opening_text}
 use Rattle.script.specs.declared.limits.TheConstants.{MAX_SHOWN}
 use Rattle.script.specs.Parts.{within, coordinate, point_from, range_of}
-use Rattle.script.specs.ScriptDocument.{edit_of, look_of, command_of, commands_of, session_of, sessions_of, opening_of, reading}
+use Rattle.script.specs.ScriptDocument.{edit_of, look_of, ranged_of, bare_of, command_of, commands_of, session_of, sessions_of, opening_of, reading}
 use Rattle.script.specs.ScriptValue.{range_value, command_value, session_value, opening_value, script_value}
 use Rattle.script.specs.TranscriptDocument.{list_value}
 use Rattle.script.proofs.Counting.{range_in_order}
@@ -35,9 +35,12 @@ range_again r h =
     rw (start, end) (range_in_order r.start r.end r.ordered)
 
 command_again : (c : Command) → IsReadable c → command_of (command_value c) ≡ Some c
-unfolding command_of edit_of look_of
+unfolding command_of ranged_of bare_of edit_of look_of
 command_again (command.Edit range text) h = rw (range_again range h) refl
 command_again (command.Text range limit) h = rw (range_again range h.0, le-leb limit MAX_SHOWN h.1) refl
+command_again command.Undo h = refl
+command_again command.Redo h = refl
+command_again command.Squash h = refl
 command_again c h = absurd h
 
 commands_again : (cs : List Command) → AllByRecursion IsReadable cs → commands_of (items_of (map command_value cs)) ≡ Some cs

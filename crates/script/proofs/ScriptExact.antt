@@ -16,7 +16,7 @@ use Rattle.machine.specs.declared.command.Script.{Script}
 use Rattle.points.specs.declared.limits.TheConstants.{MAX_COORD}
 use Rattle.machine.specs.Answers.{opening_text}
 use Rattle.script.specs.declared.limits.TheConstants.{MAX_SHOWN}
-use Rattle.script.specs.ScriptDocument.{edit_of, look_of, command_of, commands_of, session_of, sessions_of, opening_of, reading}
+use Rattle.script.specs.ScriptDocument.{edit_of, look_of, ranged_of, bare_of, command_of, commands_of, session_of, sessions_of, opening_of, reading}
 use Rattle.script.specs.Parts.{member_count, item_count, string_in, whole_of, whole_in, coordinate, point_from, range_by, range_between, range_of, range_in, is_word}
 use Rattle.script.specs.Rules.{is_version_one, is_one}
 use Rattle.script.specs.ScriptValue.{range_value, command_value, session_value, opening_value, script_value}
@@ -199,14 +199,49 @@ pub either_some : {A : Type 0} (b : Bool) (o p : Option A) (y : A) → cond b o 
 either_some true o p y e = inl (refl, e)
 either_some false o p y e = inr e
 
+ranged_exact : (d : Data) (c : Command) → IsInKeyOrder d → member_count d ≡ 3 → ranged_of d ≡ Some c → (d ≡ command_value c) × IsReadable c
+unfolding ranged_of
+ranged_exact d c sorted n e =
+    elim (either_some (is_word (string_in (codes "do") d) (codes "edit")) (edit_of d) _ c e) [
+      | inl edit ↦ edit_exact d c sorted n (word_exact _ _ edit.0) edit.1
+      | inr other ↦ let look = test_some (is_word (string_in (codes "do") d) (codes "text")) (look_of d) c other in look_exact d c sorted n (word_exact _ _ look.0) look.1
+    ]
+
+-- the commands without members, by their words
+redo_or_squash : (d : Data) (c : Command) (P : Command → Type 0) → cond (is_word (string_in (codes "do") d) (codes "redo")) (Some command.Redo) (cond (is_word (string_in (codes "do") d) (codes "squash")) (Some command.Squash) None) ≡ Some c
+    → (string_in (codes "do") d ≡ Some (codes "redo") → P command.Redo) → (string_in (codes "do") d ≡ Some (codes "squash") → P command.Squash) → P c
+redo_or_squash d c P e redo squash =
+    elim (either_some (is_word (string_in (codes "do") d) (codes "redo")) (Some command.Redo) _ c e) [
+      | inl is ↦ subst P (same_Some _ _ is.1) (redo (word_exact _ _ is.0))
+      | inr other ↦ let is = test_some (is_word (string_in (codes "do") d) (codes "squash")) (Some command.Squash) c other in subst P (same_Some _ _ is.1) (squash (word_exact _ _ is.0))
+    ]
+
+pub bare_cases : (d : Data) (c : Command) (P : Command → Type 0) → bare_of d ≡ Some c → (string_in (codes "do") d ≡ Some (codes "undo") → P command.Undo)
+    → (string_in (codes "do") d ≡ Some (codes "redo") → P command.Redo) → (string_in (codes "do") d ≡ Some (codes "squash") → P command.Squash) → P c
+unfolding bare_of
+bare_cases d c P e undo redo squash =
+    elim (either_some (is_word (string_in (codes "do") d) (codes "undo")) (Some command.Undo) _ c e) [
+      | inl is ↦ subst P (same_Some _ _ is.1) (undo (word_exact _ _ is.0))
+      | inr other ↦ redo_or_squash d c P other redo squash
+    ]
+
+word_alone : (d : Data) (word : List ℕ) → IsInKeyOrder d → member_count d ≡ 1 → string_in (codes "do") d ≡ Some word → d ≡ object (member (codes "do") (string word) no_members)
+word_alone d word sorted n is =
+    let part = one_of (codes "do") d sorted n (there as_str _ _ is) in
+    let x = string_exact part.0 word (subst (λ v. string_in (codes "do") v ≡ Some word) part.1 is) in
+    part.1 ∙ ap (λ v. object (member (codes "do") v no_members)) x
+
+bare_exact : (d : Data) (c : Command) → IsInKeyOrder d → member_count d ≡ 1 → bare_of d ≡ Some c → (d ≡ command_value c) × IsReadable c
+bare_exact d c sorted n e =
+    bare_cases d c (λ v. (d ≡ command_value v) × IsReadable v) e (λ word. (word_alone d (codes "undo") sorted n word, tt)) (λ word. (word_alone d (codes "redo") sorted n word, tt))
+    (λ word. (word_alone d (codes "squash") sorted n word, tt))
+
 command_exact : (d : Data) (c : Command) → IsInKeyOrder d → command_of d ≡ Some c → (d ≡ command_value c) × IsReadable c
 unfolding command_of
 command_exact d c sorted e =
-    let t = test_some (member_count d == 3) _ c e in
-    let n = eqb-true (member_count d) 3 t.0 in
-    elim (either_some (is_word (string_in (codes "do") d) (codes "edit")) (edit_of d) _ c t.1) [
-      | inl edit ↦ edit_exact d c sorted n (word_exact _ _ edit.0) edit.1
-      | inr other ↦ let look = test_some (is_word (string_in (codes "do") d) (codes "text")) (look_of d) c other in look_exact d c sorted n (word_exact _ _ look.0) look.1
+    elim (either_some (member_count d == 3) (ranged_of d) _ c e) [
+      | inl ranged ↦ ranged_exact d c sorted (eqb-true (member_count d) 3 ranged.0) ranged.1
+      | inr other ↦ let bare = test_some (member_count d == 1) (bare_of d) c other in bare_exact d c sorted (eqb-true (member_count d) 1 bare.0) bare.1
     ]
 
 commands_exact : (ds : Items) (cs : List Command) → ItemsInKeyOrder ds → commands_of ds ≡ Some cs → (ds ≡ items_of (map command_value cs)) × AllByRecursion IsReadable cs

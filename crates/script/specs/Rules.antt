@@ -194,9 +194,16 @@ is_again there (s ∷ more) = list_any (bytes_eq s) there || is_again (s ∷ the
 abbrev pub needs_live : Data → Bool
 needs_live d = is_do (codes "read") d || is_do (codes "send") d || is_do (codes "release") d
 
--- the words of the commands that are built
+-- the words of the commands that are built, those without a member beside them first
+abbrev pub bare_words : List (List ℕ)
+bare_words = codes "undo" ∷ codes "redo" ∷ codes "squash" ∷ []
+
 abbrev pub built_words : List (List ℕ)
-built_words = codes "edit" ∷ codes "text" ∷ []
+built_words = codes "edit" ∷ codes "text" ∷ bare_words
+
+-- a command whose word has no member beside it
+abbrev pub is_bare : Data → Bool
+is_bare d = is_one_of bare_words (string_in (codes "do") d)
 
 -- a command that isn't built
 abbrev pub is_unbuilt : Data → Bool

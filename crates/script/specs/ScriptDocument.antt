@@ -24,11 +24,22 @@ edit_of d = option_and_then (λ range. option_map (command.Edit range) (string_i
 unfoldable pub look_of : Data → Option Command
 look_of d = option_and_then (λ range. option_map (command.Text range) (whole_in MAX_SHOWN (codes "limit") d)) (range_in d)
 
--- a command: an object with three members, `do` among them, and the two others that its word asks for
+-- with two members beside the word, one a range
+unfoldable pub ranged_of : Data → Option Command
+ranged_of d =
+    if is_word (string_in (codes "do") d) (codes "edit") then edit_of d
+    else (if is_word (string_in (codes "do") d) (codes "text") then look_of d else None)
+
+-- with no member beside the word
+unfoldable pub bare_of : Data → Option Command
+bare_of d =
+    if is_word (string_in (codes "do") d) (codes "undo") then Some command.Undo
+    else (if is_word (string_in (codes "do") d) (codes "redo") then Some command.Redo
+    else (if is_word (string_in (codes "do") d) (codes "squash") then Some command.Squash else None))
+
+-- a command: an object with `do` and the members that its word asks for
 unfoldable pub command_of : Data → Option Command
-command_of d =
-    if member_count d == 3 then (if is_word (string_in (codes "do") d) (codes "edit") then edit_of d
-    else (if is_word (string_in (codes "do") d) (codes "text") then look_of d else None)) else None
+command_of d = if member_count d == 3 then ranged_of d else (if member_count d == 1 then bare_of d else None)
 
 abbrev pub commands_of : Items → Option (List Command)
 commands_of no_items = Some []

@@ -15,7 +15,7 @@ use Rattle.machine.specs.declared.reads.Encoding.TheVariants as encoding
 use Rattle.machine.specs.declared.reads.Read.{Read}
 use Rattle.machine.specs.declared.reads.Read.TheVariants as read
 use Rattle.machine.specs.Answers.{opening_text}
-use Rattle.machine.specs.Bare.{is_plain}
+use Rattle.script.specs.Limits.{has_built_word}
 use Rattle.script.specs.Rules.{value_place}
 use Rattle.script.specs.TranscriptDocument.{whole, list_value}
 use Rattle.serde_json.specs.Data.{Data, boolean, string, array, object, no_items, item, Members, no_members, member}
@@ -93,6 +93,6 @@ script_value s =
 abbrev pub BreaksNoRule : Script → Type 0
 BreaksNoRule s = value_place (script_value s) ≡ None
 
--- a script of what is built: one session of edits and looks over a text
+-- a script of what is built: one session over a text, of commands whose words are built
 abbrev pub is_built : Script → Bool
-is_built s = (length s.sessions == 1) && (is_some (opening_text s.opening) && list_all (list_all is_plain) s.sessions)
+is_built s = (length s.sessions == 1) && (is_some (opening_text s.opening) && list_all (list_all has_built_word) s.sessions)

@@ -7,7 +7,7 @@ ghost use Rattle.script.specs.Limits.{is_reading};
 ghost use Rattle.script.specs.Parts.{count_items};
 ghost use Rattle.script.specs.Reading.{IsFew, counted, has_room};
 ghost use Rattle.script.specs.Rows as kind;
-ghost use Rattle.script.specs.Rules.{at_start, command_tests, first_broken, field_breaks, wrong_kind, is_misshapen, is_do, is_number, is_quadruple, any_item, one_if};
+ghost use Rattle.script.specs.Rules.{at_start, command_tests, first_broken, field_breaks, wrong_kind, is_misshapen, is_bare, is_do, is_number, is_quadruple, any_item, one_if};
 ghost use Rattle.script.specs.ScriptDocument.{command_of};
 
 use crate::limits::{MAX_COMMANDS, MAX_READINGS};
@@ -145,6 +145,13 @@ fn lacks_limit(value: &Value) -> bool
     }
 }
 
+// Whether the value's word is one of those that have no member beside them.
+fn is_bare(value: &Value) -> bool
+    ensures { result ≡ is_bare (view value.now) }
+{
+    is_do(value, "undo") || is_do(value, "redo") || is_do(value, "squash")
+}
+
 // Whether the shape of the command is broken, or its word isn't built.
 fn is_misshapen(value: &Value) -> bool
     ensures { result ≡ is_misshapen false (view value.now) }
@@ -154,6 +161,9 @@ fn is_misshapen(value: &Value) -> bool
     }
     if is_do(value, "text") {
         return member_count(value) != 3 || lacks_range(value) || lacks_limit(value);
+    }
+    if is_bare(value) {
+        return member_count(value) != 1;
     }
     true
 }

@@ -1,7 +1,7 @@
 //! From bytes to a script.
 ghost use Rattle.std.specs.Prelude.{◌≡◌, false, Some, None, IfOk, IfErr};
 ghost use Rattle.serde_json.specs.View.{view, items_view};
-ghost use Rattle.script.specs.ScriptDocument.{edit_of, look_of, command_of, commands_of, opened_in, session_in, head_of, script_of, document, script_in, script_place, IsRefusalAt};
+ghost use Rattle.script.specs.ScriptDocument.{edit_of, look_of, ranged_of, bare_of, command_of, commands_of, opened_in, session_in, head_of, script_of, document, script_in, script_place, IsRefusalAt};
 ghost use Rattle.script.specs.Rules.{at_start, command_tests, first_broken, is_version_one, place_in_session, built_place};
 ghost use Rattle.script.specs.Reading.{Gives, IsFew, IsRead, FaultIs, counted, one_session};
 ghost use Rattle.script.specs.Limits.{IsWithinLimits};
@@ -37,20 +37,50 @@ fn look_of(value: &Value) -> Result<Command, Misfit>
     Ok(Command::Text { range, limit })
 }
 
-// A command: each that is built has three members.
-#[tactic(auto, unfolding(crate::specs::ScriptDocument::command_of))]
-fn command_of(alloc: Global, value: &Value) -> Result<Command, Misfit>
-    ensures { Gives (λ c. c) result (command_of (view value.now)) }
+// A command with two members beside its word, one a range.
+#[tactic(auto, unfolding(crate::specs::ScriptDocument::ranged_of))]
+fn ranged_of(alloc: Global, value: &Value) -> Result<Command, Misfit>
+    ensures { Gives (λ c. c) result (ranged_of (view value.now)) }
 {
-    if member_count(value) != 3 {
-        return Err(Misfit::Shape);
-    }
     let word = string_in(value, "do")?;
     if word == "edit" {
         return edit_of(alloc, value);
     }
     if word == "text" {
         return look_of(value);
+    }
+    Err(Misfit::Shape)
+}
+
+// A command with no member beside its word.
+#[tactic(auto, unfolding(crate::specs::ScriptDocument::bare_of))]
+fn bare_of(value: &Value) -> Result<Command, Misfit>
+    ensures { Gives (λ c. c) result (bare_of (view value.now)) }
+{
+    let word = string_in(value, "do")?;
+    if word == "undo" {
+        return Ok(Command::Undo);
+    }
+    if word == "redo" {
+        return Ok(Command::Redo);
+    }
+    if word == "squash" {
+        return Ok(Command::Squash);
+    }
+    Err(Misfit::Shape)
+}
+
+// A command: each that is built has three members or one.
+#[tactic(auto, unfolding(crate::specs::ScriptDocument::command_of))]
+fn command_of(alloc: Global, value: &Value) -> Result<Command, Misfit>
+    ensures { Gives (λ c. c) result (command_of (view value.now)) }
+{
+    let count = member_count(value);
+    if count == 3 {
+        return ranged_of(alloc, value);
+    }
+    if count == 1 {
+        return bare_of(value);
     }
     Err(Misfit::Shape)
 }

@@ -1,14 +1,14 @@
-use Rattle.buffer_cli.proofs.RunLemmas.{runs_more, plain_at}
+use Rattle.buffer_cli.proofs.RunLemmas.{runs_more, built_at}
 use Rattle.buffer_cli.proofs.answer.answer_all.Goals as goal
 
 pub loop-command-preserved : goal.loop-command-preserved
 loop-command-preserved g c = record {
   runs = rw c.in_ok-push.ensures.items (runs_more _ _ _ _ _ c.loop-command.command-index c.command-item.result _ c.loop-command-test.true c.command-item.is
-      (plain_at _ c.loop-command.command-index c.command-item.result c.loop-command-test.true c.command-item.is c.requires.plain)
+      (built_at _ c.loop-command.command-index c.command-item.result c.loop-command-test.true c.command-item.is c.requires.built)
       c.in_ok-answer_one.ensures.ok c.loop-command.invariant.runs);
   told = c.answer_one.ensures.told;
   stands = c.answer_one.ensures.stands;
 }
 
-pub answer_one-requires-clause-plain : goal.answer_one-requires-clause-plain
-answer_one-requires-clause-plain g c = plain_at _ c.loop-command.command-index c.command-item.result c.loop-command-test.true c.command-item.is c.requires.plain
+pub answer_one-requires-clause-built : goal.answer_one-requires-clause-built
+answer_one-requires-clause-built g c = built_at _ c.loop-command.command-index c.command-item.result c.loop-command-test.true c.command-item.is c.requires.built
