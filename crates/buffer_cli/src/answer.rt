@@ -90,7 +90,7 @@ fn answer_all(
     Ok(replies)
 }
 
-/// Answers one command. A squash has nothing to do where the text is in one piece.
+/// Answers one command.
 fn answer_one(alloc: Global, buffer: &mut Buffer, command: &Command) -> Result<Reply, NoMemory>
     requires count { buffer.old.count < LAST }
     requires built { has_built_word command.now ≡ true }
@@ -102,7 +102,10 @@ fn answer_one(alloc: Global, buffer: &mut Buffer, command: &Command) -> Result<R
     ensures stands { Stands (λ s. ⟦<Seat as Listens>⟧.kept s) buffer.new.followers.watchers.told buffer.new.followers.watchers.seats.items }
 {
     match command {
-        Command::Squash => Ok(Reply::Nothing),
+        Command::Squash => {
+            buffer.text.squash()?;
+            Ok(Reply::Nothing)
+        }
         _ => buffer.play(alloc, command),
     }
 }
