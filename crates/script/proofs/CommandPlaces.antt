@@ -247,7 +247,7 @@ read_cases d c P e edit look bare =
     elim (either_some (member_count d == 3) (ranged_of d) _ c e) [
       | inl ranged ↦ ranged_cases d c P ranged.0 ranged.1 edit look
       | inr other ↦ let one = test_some (member_count d == 1) (bare_of d) c other in
-        bare (record { members = eqb-true (member_count d) 1 one.0; word = bare_cases d c (IsBareWord d) one.1 (undo_word d) (redo_word d) (squash_word d) })
+          bare (record { members = eqb-true (member_count d) 1 one.0; word = bare_cases d c (IsBareWord d) one.1 (undo_word d) (redo_word d) (squash_word d) })
     ]
 
 edit_shape : (d : Data) (x : Range) (s : List ℕ) → IsEditOf d x s → (is_misshapen false d ≡ false) × (command_breaks wrong_number false d ≡ false)
