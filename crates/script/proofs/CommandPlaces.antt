@@ -236,6 +236,14 @@ bare_unread d bare kinds e =
     let one = not-false (member_count d == 1) (sym (found.1.kinds ∙ or_no_more (not (member_count d == 1))) ∙ kinds) in
     none-some found.0 (sym e ∙ bare_again d found.0 (record { members = eqb-true (member_count d) 1 one; word = found.1 }))
 
+-- what is left of the tests
+three_known : (a b e many : Bool) → a ≡ false → b ≡ many → e ≡ false → first_broken ((a, BadShape) ∷ (b, TooMany) ∷ (e, BadNumber) ∷ []) ≡ cond many (Some TooMany) None
+three_known a b e many shape is number = rw (shape, is, number) refl
+
+three_left : (room a b e : Bool) → a ≡ false → e ≡ true → (room ≡ true → b ≡ false) → (room ≡ false → b ≡ true) → first_broken ((a, BadShape) ∷ (b, TooMany) ∷ (e, BadNumber) ∷ []) ≡ cond room (Some BadNumber) (Some TooMany)
+three_left true a b e shape number fits full = let few : b ≡ false = fits refl in rw (shape, few, number) refl
+three_left false a b e shape number fits full = let many : b ≡ true = full refl in rw (shape, many) refl
+
 -- ---- commands on marks
 
 -- the tests of such a command: of its shape, of what there is too much of, and of its numbers
@@ -279,7 +287,7 @@ exclusive_known : (d v f : Data) (o : Option ℕ) (b : Bool) → member_count d 
     → is_misshapen false d ≡ false → IsKnown d (option_map (λ id. command.Exclusive id b) o)
 unfolding command_of on_marks_of exclusive_of
 exclusive_known d v f None b n word id value is flag shape =
-    record { read = rw (n, word, id, value, is, flag) refl; wrong = true; shape = shape; tests = λ b. rw (word, id, value, is, flag) refl; number = refl; many = λ b. rw word refl; after = λ old new commands readings. rw (commands, readings, word) refl; quiet = rw word refl; shows = refl }
+    record { read = rw (n, word, id, value, is) refl; wrong = true; shape = shape; tests = λ b. rw (word, id, value, is, flag) refl; number = refl; many = λ b. rw word refl; after = λ old new commands readings. rw (commands, readings, word) refl; quiet = rw word refl; shows = refl }
 exclusive_known d v f (Some x) b n word id value is flag shape =
     record { read = rw (n, word, id, value, is, flag) refl; wrong = false; shape = shape; tests = λ b. rw (word, id, value, is, flag) refl; number = refl; many = λ b. rw word refl; after = λ old new commands readings. rw (commands, readings, word) refl; quiet = rw word refl; shows = refl }
 
@@ -287,7 +295,7 @@ compare_known : (d v w : Data) (o p : Option ℕ) → member_count d ≡ 3 → s
     → is_misshapen false d ≡ false → IsKnown d (option_and_then (λ a. option_map (command.Compare a) p) o)
 unfolding command_of on_marks_of compare_of
 compare_known d v w None p n word a c is at shape =
-    record { read = rw (n, word, a, c, is, at) refl; wrong = true; shape = shape; tests = λ b. rw (word, a, c, is, at) refl; number = refl; many = λ b. rw word refl; after = λ old new commands readings. rw (commands, readings, word) refl; quiet = rw word refl; shows = refl }
+    record { read = rw (n, word, a, c, is) refl; wrong = true; shape = shape; tests = λ b. rw (word, a, c, is) refl; number = refl; many = λ b. rw word refl; after = λ old new commands readings. rw (commands, readings, word) refl; quiet = rw word refl; shows = refl }
 compare_known d v w (Some x) None n word a c is at shape =
     record { read = rw (n, word, a, c, is, at) refl; wrong = true; shape = shape; tests = λ b. rw (word, a, c, is, at) refl; number = refl; many = λ b. rw word refl; after = λ old new commands readings. rw (commands, readings, word) refl; quiet = rw word refl; shows = refl }
 compare_known d v w (Some x) (Some y) n word a c is at shape =
@@ -297,9 +305,9 @@ mark_known : (d v r f : Data) (o : Option ℕ) (p : Option Range) (b : Bool) →
     → whole_of MAX_ID v ≡ o → range_of r ≡ p → as_bool f ≡ Some b → is_misshapen false d ≡ false → IsKnown d (option_and_then (λ id. option_map (λ range. command.Mark id range b) p) o)
 unfolding command_of on_marks_of mark_of
 mark_known d v r f None p b n word id range value is at flag shape =
-    record { read = rw (n, word, id, range, value, is, at, flag) refl; wrong = true; shape = shape; tests = λ b. rw (word, id, range, value, is, at, flag) refl; number = refl; many = λ b. rw word refl; after = λ old new commands readings. rw (commands, readings, word) refl; quiet = rw word refl; shows = refl }
+    record { read = rw (n, word, id, range, value, is) refl; wrong = true; shape = shape; tests = λ b. rw (word, id, range, value, is) refl; number = refl; many = λ b. rw word refl; after = λ old new commands readings. rw (commands, readings, word) refl; quiet = rw word refl; shows = refl }
 mark_known d v r f (Some x) None b n word id range value is at flag shape =
-    record { read = rw (n, word, id, range, value, is, at, flag) refl; wrong = true; shape = shape; tests = λ b. rw (word, id, range, value, is, at, flag) refl; number = refl; many = λ b. rw word refl; after = λ old new commands readings. rw (commands, readings, word) refl; quiet = rw word refl; shows = refl }
+    record { read = rw (n, word, id, range, value, is, at) refl; wrong = true; shape = shape; tests = λ b. rw (word, id, range, value, is, at) refl; number = refl; many = λ b. rw word refl; after = λ old new commands readings. rw (commands, readings, word) refl; quiet = rw word refl; shows = refl }
 mark_known d v r f (Some x) (Some y) b n word id range value is at flag shape =
     record { read = rw (n, word, id, range, value, is, at, flag) refl; wrong = false; shape = shape; tests = λ b. rw (word, id, range, value, is, at, flag) refl; number = refl; many = λ b. rw word refl; after = λ old new commands readings. rw (commands, readings, word) refl; quiet = rw word refl; shows = refl }
 
@@ -319,7 +327,7 @@ unmark_read d c word e =
     let n = eqb-true (member_count d) 2 t.0 in
     behind_map command.Unmark (whole_in MAX_ID (codes "id") d) c t.1 (λ x x_is is.
     let id = id_there (get (codes "id") d) x x_is in
-    subst (λ v. IsKnown d (Some v)) is (unmark_known d (whole x) (Some x) n word id.0 id.1 (rw (n, word, id.0) refl)))
+    subst (λ v. IsKnown d (Some v)) is (unmark_known d (whole x) (Some x) n word id.0 id.1 (rw (word, n, id.0) refl)))
 
 range_read : (d : Data) (c : Command) → string_in (codes "do") d ≡ Some (codes "range") → mark_range_of d ≡ Some c → IsKnown d (Some c)
 unfolding mark_range_of
@@ -328,7 +336,7 @@ range_read d c word e =
     let n = eqb-true (member_count d) 2 t.0 in
     behind_map command.Range (whole_in MAX_ID (codes "id") d) c t.1 (λ x x_is is.
     let id = id_there (get (codes "id") d) x x_is in
-    subst (λ v. IsKnown d (Some v)) is (range_known d (whole x) (Some x) n word id.0 id.1 (rw (n, word, id.0) refl)))
+    subst (λ v. IsKnown d (Some v)) is (range_known d (whole x) (Some x) n word id.0 id.1 (rw (word, n, id.0) refl)))
 
 exclusive_read : (d : Data) (c : Command) → string_in (codes "do") d ≡ Some (codes "exclusive") → exclusive_of d ≡ Some c → IsKnown d (Some c)
 unfolding exclusive_of
@@ -339,7 +347,7 @@ exclusive_read d c word e =
     behind_map (command.Exclusive x) (flag_in (codes "value") d) c rest (λ b b_is is.
     let id = id_there (get (codes "id") d) x x_is in
     let value = flag_there (get (codes "value") d) b b_is in
-    subst (λ v. IsKnown d (Some v)) is (exclusive_known d (whole x) (boolean b) (Some x) b n word id.0 value id.1 refl (rw (n, word, id.0, value) refl))))
+    subst (λ v. IsKnown d (Some v)) is (exclusive_known d (whole x) (boolean b) (Some x) b n word id.0 value id.1 refl (rw (word, n, id.0, value) refl))))
 
 compare_read : (d : Data) (c : Command) → string_in (codes "do") d ≡ Some (codes "compare") → compare_of d ≡ Some c → IsKnown d (Some c)
 unfolding compare_of
@@ -350,7 +358,7 @@ compare_read d c word e =
     behind_map (command.Compare x) (whole_in MAX_ID (codes "b") d) c rest (λ y y_is is.
     let a = id_there (get (codes "a") d) x x_is in
     let b = id_there (get (codes "b") d) y y_is in
-    subst (λ v. IsKnown d (Some v)) is (compare_known d (whole x) (whole y) (Some x) (Some y) n word a.0 b.0 a.1 b.1 (rw (n, word, a.0, b.0) refl))))
+    subst (λ v. IsKnown d (Some v)) is (compare_known d (whole x) (whole y) (Some x) (Some y) n word a.0 b.0 a.1 b.1 (rw (word, n, a.0, b.0) refl))))
 
 mark_read : (d : Data) (c : Command) → string_in (codes "do") d ≡ Some (codes "mark") → mark_of d ≡ Some c → IsKnown d (Some c)
 unfolding mark_of
@@ -363,7 +371,7 @@ mark_read d c word e =
     let id = id_there (get (codes "id") d) x x_is in
     let range = range_there (get (codes "range") d) r r_is in
     let value = flag_there (get (codes "exclusive") d) b b_is in
-    subst (λ v. IsKnown d (Some v)) is (mark_known d (whole x) (range_value r) (boolean b) (Some x) (Some r) b n word id.0 range.0 value id.1 range.1 refl (rw (n, word, id.0, range.0, value) refl)))))
+    subst (λ v. IsKnown d (Some v)) is (mark_known d (whole x) (range_value r) (boolean b) (Some x) (Some r) b n word id.0 range.0 value id.1 range.1 refl (rw (word, n, id.0, range.0, value) refl)))))
 
 -- room for such a command, by what there would be too much of
 room_by : (b : Before) (d : Data) → is_too_many (counted b) d ≡ (nat_lt MAX_COMMANDS (b.commands + 1) || nat_lt MAX_READINGS (b.readings + 0) || false || false || false || false) → has_room b false ≡ true → is_too_many (counted b) d ≡ false
@@ -410,14 +418,6 @@ edit_shape d x s h = (rw (h.word, h.members, h.range, h.text) refl, rw (h.word, 
 
 look_shape : (d : Data) (x : Range) (n : ℕ) → IsLookOf d x n → (is_misshapen false d ≡ false) × (command_breaks wrong_number false d ≡ false)
 look_shape d x n h = (rw (h.word, h.members, h.range, h.limit) refl, rw (h.word, h.range, h.found, h.limit, le-leb n MAX_SHOWN h.small) refl)
-
--- what is left of the tests
-three_known : (a b e many : Bool) → a ≡ false → b ≡ many → e ≡ false → first_broken ((a, BadShape) ∷ (b, TooMany) ∷ (e, BadNumber) ∷ []) ≡ cond many (Some TooMany) None
-three_known a b e many shape is number = rw (shape, is, number) refl
-
-three_left : (room a b e : Bool) → a ≡ false → e ≡ true → (room ≡ true → b ≡ false) → (room ≡ false → b ≡ true) → first_broken ((a, BadShape) ∷ (b, TooMany) ∷ (e, BadNumber) ∷ []) ≡ cond room (Some BadNumber) (Some TooMany)
-three_left true a b e shape number fits full = let few : b ≡ false = fits refl in rw (shape, few, number) refl
-three_left false a b e shape number fits full = let many : b ≡ true = full refl in rw (shape, many) refl
 
 edit_again : (d : Data) (x : Range) (s : List ℕ) → IsEditOf d x s → command_of d ≡ Some (command.Edit x s)
 unfolding command_of on_text_of ranged_of edit_of
