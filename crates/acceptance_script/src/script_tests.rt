@@ -223,12 +223,29 @@ read|{\"do\":\"edit\",\"range\":[0,0,0,0],\"text\":\"\"},{\"do\":\"squash\"}\n\
 1 2 BadShape|{\"do\":\"edit\",\"range\":[0,0,0,0],\"text\":\"\"},{\"do\":\"release\",\"snapshot\":0}\n\
 1 2 BadShape|{\"do\":\"edit\",\"range\":[0,0,0,0],\"text\":\"\"},{\"do\":\"read\",\"snapshot\":0,\"reads\":[]}\n\
 1 2 BadShape|{\"do\":\"edit\",\"range\":[0,0,0,0],\"text\":\"\"},{\"do\":\"send\",\"snapshot\":-1,\"reads\":[]}\n\
-1 2 BadShape|{\"do\":\"edit\",\"range\":[0,0,0,0],\"text\":\"\"},{\"do\":\"mark\",\"id\":-1,\"range\":[1,0,0,0],\"exclusive\":true}\n\
-1 2 BadShape|{\"do\":\"edit\",\"range\":[0,0,0,0],\"text\":\"\"},{\"do\":\"unmark\",\"id\":0}\n\
-1 2 BadShape|{\"do\":\"edit\",\"range\":[0,0,0,0],\"text\":\"\"},{\"do\":\"exclusive\",\"id\":0,\"value\":true}\n\
-1 2 BadShape|{\"do\":\"edit\",\"range\":[0,0,0,0],\"text\":\"\"},{\"do\":\"range\",\"id\":0}\n\
+1 2 BadNumber|{\"do\":\"edit\",\"range\":[0,0,0,0],\"text\":\"\"},{\"do\":\"mark\",\"id\":-1,\"range\":[1,0,0,0],\"exclusive\":true}\n\
+read|{\"do\":\"edit\",\"range\":[0,0,0,0],\"text\":\"\"},{\"do\":\"mark\",\"id\":4294967295,\"range\":[0,0,0,0],\"exclusive\":true}\n\
+1 1 BadNumber|{\"do\":\"mark\",\"id\":0,\"range\":[1,0,0,0],\"exclusive\":false}\n\
+1 1 BadShape|{\"do\":\"mark\",\"id\":-1,\"range\":[1,0,0,0],\"exclusive\":0}\n\
+1 1 BadShape|{\"do\":\"mark\",\"id\":0,\"range\":[0,0,0],\"exclusive\":true}\n\
+1 1 BadShape|{\"do\":\"mark\",\"id\":0,\"range\":[0,0,0,0]}\n\
+read|{\"do\":\"edit\",\"range\":[0,0,0,0],\"text\":\"\"},{\"do\":\"unmark\",\"id\":0}\n\
+1 1 BadNumber|{\"do\":\"unmark\",\"id\":4294967296}\n\
+1 1 BadShape|{\"do\":\"unmark\",\"id\":\"0\"}\n\
+1 1 BadShape|{\"do\":\"unmark\"}\n\
+read|{\"do\":\"edit\",\"range\":[0,0,0,0],\"text\":\"\"},{\"do\":\"exclusive\",\"id\":0,\"value\":true}\n\
+1 1 BadNumber|{\"do\":\"exclusive\",\"id\":0.5,\"value\":true}\n\
+1 1 BadShape|{\"do\":\"exclusive\",\"id\":-1,\"value\":null}\n\
+1 1 BadShape|{\"do\":\"exclusive\",\"id\":0,\"exclusive\":true}\n\
+read|{\"do\":\"edit\",\"range\":[0,0,0,0],\"text\":\"\"},{\"do\":\"range\",\"id\":0}\n\
+1 1 BadNumber|{\"do\":\"range\",\"id\":-0}\n\
+1 1 BadShape|{\"do\":\"range\",\"id\":-1,\"exclusive\":true}\n\
 1 2 BadShape|{\"do\":\"edit\",\"range\":[0,0,0,0],\"text\":\"\"},{\"do\":\"marks\",\"how\":\"containing\",\"range\":[0,0,0,0]}\n\
-1 2 BadShape|{\"do\":\"edit\",\"range\":[0,0,0,0],\"text\":\"\"},{\"do\":\"compare\",\"a\":0,\"b\":0}\n\
+read|{\"do\":\"edit\",\"range\":[0,0,0,0],\"text\":\"\"},{\"do\":\"compare\",\"a\":0,\"b\":0}\n\
+1 1 BadNumber|{\"do\":\"compare\",\"a\":0,\"b\":-1}\n\
+1 1 BadNumber|{\"do\":\"compare\",\"a\":1e0,\"b\":0}\n\
+1 1 BadShape|{\"do\":\"compare\",\"a\":-1,\"b\":null}\n\
+1 1 BadShape|{\"do\":\"compare\",\"a\":0,\"id\":0}\n\
 1 2 BadShape|{\"do\":\"edit\",\"range\":[0,0,0,0],\"text\":\"\"},{\"do\":\"watch\",\"id\":0}\n\
 1 2 BadShape|{\"do\":\"edit\",\"range\":[0,0,0,0],\"text\":\"\"},{\"do\":\"unwatch\",\"id\":0}\n\
 1 2 BadShape|{\"do\":\"edit\",\"range\":[0,0,0,0],\"text\":\"\"},{\"do\":\"batch\",\"edits\":[]}\n\

@@ -7,7 +7,7 @@ use Rattle.machine.specs.declared.command.Command.{Command}
 use Rattle.machine.specs.declared.command.Command.TheVariants as command
 use Rattle.machine.specs.declared.command.Script.{Script}
 use Rattle.machine.specs.declared.reply.Reply.{Reply}
-use Rattle.machine.specs.Machine.{State, Call, step, after, opened, edit, look, undo, redo}
+use Rattle.machine.specs.Machine.{State, Call, step, after, opened, edit, look, undo, redo, add_mark, remove_mark, set_exclusive, mark_range, compare_marks}
 use Rattle.machine.specs.Answers.{call_of}
 use Rattle.machine.specs.Lawful.{IsLawful}
 use Rattle.machine.specs.Plain.{after_call, calls_of, plain_reply, plain_replies}
@@ -34,6 +34,11 @@ next_of s (command.Edit range new) cs built = record { counts = one_more s (edit
 next_of s (command.Text range limit) cs built = record { counts = one_more s (look range limit); replies = refl; later = refl; sound = sound_step s (look range limit) refl }
 next_of s command.Undo cs built = record { counts = one_more s undo; replies = refl; later = refl; sound = sound_step s undo refl }
 next_of s command.Redo cs built = record { counts = one_more s redo; replies = refl; later = refl; sound = sound_step s redo refl }
+next_of s (command.Mark id range exclusive) cs built = record { counts = one_more s (add_mark id range exclusive); replies = refl; later = refl; sound = sound_step s (add_mark id range exclusive) refl }
+next_of s (command.Unmark id) cs built = record { counts = one_more s (remove_mark id); replies = refl; later = refl; sound = sound_step s (remove_mark id) refl }
+next_of s (command.Exclusive id value) cs built = record { counts = one_more s (set_exclusive id value); replies = refl; later = refl; sound = sound_step s (set_exclusive id value) refl }
+next_of s (command.Range id) cs built = record { counts = one_more s (mark_range id); replies = refl; later = refl; sound = sound_step s (mark_range id) refl }
+next_of s (command.Compare a b) cs built = record { counts = one_more s (compare_marks a b); replies = refl; later = refl; sound = sound_step s (compare_marks a b) refl }
 next_of s command.Squash cs built = record { counts = omega arith; replies = refl; later = refl; sound = λ h. h }
 next_of s _ cs built = absurd (false≢true built)
 

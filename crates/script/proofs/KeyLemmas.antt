@@ -109,6 +109,21 @@ three_members a b c (member k x (member l y no_members)) e = absurd cc
 three_members a b c (member k x (member l y (member m z no_members))) e = (x, y, z, cc)
 three_members a b c (member k x (member l y (member m z (member n w ms)))) e = absurd cc
 
+-- the members with these two keys, and with these four
+pub two_members : (a b : List ℕ) (ms : Members) → keys_of ms ≡ a ∷ b ∷ [] → (x y : Data) × (ms ≡ member a x (member b y no_members))
+two_members a b no_members e = absurd cc
+two_members a b (member k x no_members) e = absurd cc
+two_members a b (member k x (member l y no_members)) e = (x, y, cc)
+two_members a b (member k x (member l y (member m z ms))) e = absurd cc
+
+pub four_members : (a b c d : List ℕ) (ms : Members) → keys_of ms ≡ a ∷ b ∷ c ∷ d ∷ [] → (x y z w : Data) × (ms ≡ member a x (member b y (member c z (member d w no_members))))
+four_members a b c d no_members e = absurd cc
+four_members a b c d (member k x no_members) e = absurd cc
+four_members a b c d (member k x (member l y no_members)) e = absurd cc
+four_members a b c d (member k x (member l y (member m z no_members))) e = absurd cc
+four_members a b c d (member k x (member l y (member m z (member n w no_members)))) e = (x, y, z, w, cc)
+four_members a b c d (member k x (member l y (member m z (member n w (member o v ms))))) e = absurd cc
+
 -- the member with this key
 pub one_member : (a : List ℕ) (ms : Members) → keys_of ms ≡ a ∷ [] → (x : Data) × (ms ≡ member a x no_members)
 one_member a no_members e = absurd cc

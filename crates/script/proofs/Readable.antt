@@ -10,7 +10,7 @@ use Rattle.machine.specs.declared.command.Command.TheVariants as command
 use Rattle.machine.specs.declared.command.Script.{Script}
 use Rattle.machine.specs.Answers.{opening_text}
 use Rattle.script.specs.Limits.{has_built_word}
-use Rattle.script.specs.declared.limits.TheConstants.{MAX_SHOWN}
+use Rattle.script.specs.declared.limits.TheConstants.{MAX_SHOWN, MAX_ID}
 use Rattle.script.specs.ScriptValue.{is_built}
 
 -- a range within the greatest row and column
@@ -25,6 +25,11 @@ IsReadable (command.Text range limit) = IsRangeWithin range × (limit ≤ MAX_SH
 IsReadable command.Undo = Unit {0}
 IsReadable command.Redo = Unit {0}
 IsReadable command.Squash = Unit {0}
+IsReadable (command.Unmark id) = id ≤ MAX_ID
+IsReadable (command.Range id) = id ≤ MAX_ID
+IsReadable (command.Exclusive id value) = id ≤ MAX_ID
+IsReadable (command.Compare a b) = (a ≤ MAX_ID) × (b ≤ MAX_ID)
+IsReadable (command.Mark id range exclusive) = (id ≤ MAX_ID) × IsRangeWithin range
 IsReadable c = ⊥
 
 pub record IsReadableScript (s : Script) : Type 0 where
@@ -39,6 +44,11 @@ command_built (command.Text range limit) h = refl
 command_built command.Undo h = refl
 command_built command.Redo h = refl
 command_built command.Squash h = refl
+command_built (command.Unmark id) h = refl
+command_built (command.Range id) h = refl
+command_built (command.Exclusive id value) h = refl
+command_built (command.Compare a c) h = refl
+command_built (command.Mark id range exclusive) h = refl
 command_built c h = absurd h
 
 session_built : (cs : List Command) → AllByRecursion IsReadable cs → AllByRecursion (λ c. has_built_word c ≡ true) cs

@@ -15,7 +15,7 @@ use Rattle.machine.specs.declared.command.Command.TheVariants as command
 use Rattle.machine.specs.declared.command.Opening.{Opening}
 use Rattle.machine.specs.declared.command.Opening.TheVariants as opening
 use Rattle.machine.specs.declared.command.Script.{Script}
-use Rattle.script.specs.declared.limits.TheConstants.{MAX_SESSIONS, MAX_COMMANDS, MAX_READINGS, MAX_SAVES, MAX_FINDS, MAX_SHOWN, MAX_WATCHES}
+use Rattle.script.specs.declared.limits.TheConstants.{MAX_SESSIONS, MAX_COMMANDS, MAX_READINGS, MAX_SAVES, MAX_FINDS, MAX_SHOWN, MAX_WATCHES, MAX_ID}
 use Rattle.script.specs.declared.refusal.ScriptRule.{ScriptRule}
 use Rattle.script.specs.declared.refusal.ScriptRule.TheVariants.{BadShape, TooMany, UnknownSnapshot, SnapshotTaken, BadNumber}
 use Rattle.script.specs.Limits.{has_built_word, is_opening_within, is_reading, is_bounded, is_within}
@@ -61,6 +61,11 @@ step_few b (command.Text range limit) h plain more readings = plain_few b 1 plai
 step_few b command.Undo h plain more readings = plain_few b 0 plain more readings
 step_few b command.Redo h plain more readings = plain_few b 0 plain more readings
 step_few b command.Squash h plain more readings = plain_few b 0 plain more readings
+step_few b (command.Unmark id) h plain more readings = plain_few b 0 plain more readings
+step_few b (command.Range id) h plain more readings = plain_few b 0 plain more readings
+step_few b (command.Exclusive id value) h plain more readings = plain_few b 0 plain more readings
+step_few b (command.Compare x y) h plain more readings = plain_few b 0 plain more readings
+step_few b (command.Mark id range exclusive) h plain more readings = plain_few b 0 plain more readings
 step_few b c h plain more readings = absurd h
 
 step_passes : (all : Bool) (b : Before) (c : Command) → IsReadable c → is_too_many b (command_value c) ≡ false → first_broken (command_tests all b (command_value c)) ≡ None
@@ -69,6 +74,11 @@ step_passes all b (command.Text range limit) h few = rw (few, range_again range 
 step_passes all b command.Undo h few = rw few refl
 step_passes all b command.Redo h few = rw few refl
 step_passes all b command.Squash h few = rw few refl
+step_passes all b (command.Unmark id) h few = rw (few, le-leb id MAX_ID h) refl
+step_passes all b (command.Range id) h few = rw (few, le-leb id MAX_ID h) refl
+step_passes all b (command.Exclusive id value) h few = rw (few, le-leb id MAX_ID h) refl
+step_passes all b (command.Compare x y) h few = rw (few, le-leb x MAX_ID h.0, le-leb y MAX_ID h.1) refl
+step_passes all b (command.Mark id range exclusive) h few = rw (few, le-leb id MAX_ID h.0, range_again range h.1) refl
 step_passes all b c h few = absurd h
 
 counts_first : (c : Command) (cs : List Command) → count_by is_reading (c ∷ cs) ≡ readings_of c + count_by is_reading cs
@@ -80,6 +90,11 @@ reading_after b (command.Text range limit) h = omega arith
 reading_after b command.Undo h = omega arith
 reading_after b command.Redo h = omega arith
 reading_after b command.Squash h = omega arith
+reading_after b (command.Unmark id) h = omega arith
+reading_after b (command.Range id) h = omega arith
+reading_after b (command.Exclusive id value) h = omega arith
+reading_after b (command.Compare x y) h = omega arith
+reading_after b (command.Mark id range exclusive) h = omega arith
 reading_after b c h = absurd h
 
 plain_more : (b after : Before) → IsPlain b → after.names ≡ b.names ++ [] → after.marks ≡ b.marks + 0 → after.watches ≡ b.watches + 0 → IsPlain after
@@ -91,6 +106,11 @@ plain_after b (command.Text range limit) h plain = plain_more b (next b (command
 plain_after b command.Undo h plain = plain_more b (next b (command_value command.Undo)) plain refl refl refl
 plain_after b command.Redo h plain = plain_more b (next b (command_value command.Redo)) plain refl refl refl
 plain_after b command.Squash h plain = plain_more b (next b (command_value command.Squash)) plain refl refl refl
+plain_after b (command.Unmark id) h plain = plain_more b (next b (command_value (command.Unmark id))) plain refl refl refl
+plain_after b (command.Range id) h plain = plain_more b (next b (command_value (command.Range id))) plain refl refl refl
+plain_after b (command.Exclusive id value) h plain = plain_more b (next b (command_value (command.Exclusive id value))) plain refl refl refl
+plain_after b (command.Compare x y) h plain = plain_more b (next b (command_value (command.Compare x y))) plain refl refl refl
+plain_after b (command.Mark id range exclusive) h plain = plain_more b (next b (command_value (command.Mark id range exclusive))) plain refl refl refl
 plain_after b c h plain = absurd h
 
 -- the commands of a session, one after another
@@ -157,6 +177,13 @@ range_back r e =
       end = record { row = omega (arith, exact.1.end.row); column = omega (arith, exact.1.end.column) };
     }
 
+id_back : (id : ℕ) → not (is_some (whole_of MAX_ID (whole id))) ≡ false → id ≤ MAX_ID
+id_back id e =
+    let found = there (whole_of MAX_ID (whole id)) e in
+    let exact = whole_exact MAX_ID found.0 (whole id) found.1 in
+    let same : id ≡ found.0 = cc (exact.0) in
+    omega (arith, exact.1)
+
 limit_back : (limit : ℕ) → not (is_some (whole_of MAX_SHOWN (whole limit))) ≡ false → limit ≤ MAX_SHOWN
 limit_back limit e =
     let found = there (whole_of MAX_SHOWN (whole limit)) e in
@@ -195,6 +222,23 @@ step_back all b (command.Text range limit) built e =
 step_back all b command.Undo built e = bare_back b command.Undo tt refl (tests_pass all b (command_value command.Undo) e).0
 step_back all b command.Redo built e = bare_back b command.Redo tt refl (tests_pass all b (command_value command.Redo) e).0
 step_back all b command.Squash built e = bare_back b command.Squash tt refl (tests_pass all b (command_value command.Squash) e).0
+step_back all b (command.Unmark id) built e =
+    let tests = tests_pass all b (command_value (command.Unmark id)) e in
+    bare_back b (command.Unmark id) (id_back id (or_false (not (is_some (whole_of MAX_ID (whole id)))) false tests.1).0) refl tests.0
+step_back all b (command.Range id) built e =
+    let tests = tests_pass all b (command_value (command.Range id)) e in
+    bare_back b (command.Range id) (id_back id (or_false (not (is_some (whole_of MAX_ID (whole id)))) false tests.1).0) refl tests.0
+step_back all b (command.Exclusive id value) built e =
+    let tests = tests_pass all b (command_value (command.Exclusive id value)) e in
+    bare_back b (command.Exclusive id value) (id_back id (or_false (not (is_some (whole_of MAX_ID (whole id)))) false tests.1).0) refl tests.0
+step_back all b (command.Compare x y) built e =
+    let tests = tests_pass all b (command_value (command.Compare x y)) e in
+    let parts = or_false (not (is_some (whole_of MAX_ID (whole x)))) (not (is_some (whole_of MAX_ID (whole y))) || false) tests.1 in
+    bare_back b (command.Compare x y) (id_back x parts.0, id_back y (or_false (not (is_some (whole_of MAX_ID (whole y)))) false parts.1).0) refl tests.0
+step_back all b (command.Mark id range exclusive) built e =
+    let tests = tests_pass all b (command_value (command.Mark id range exclusive)) e in
+    let parts = or_false (not (is_some (whole_of MAX_ID (whole id)))) (not (is_some (range_of (range_value range))) || false) tests.1 in
+    bare_back b (command.Mark id range exclusive) (id_back id parts.0, range_back range (or_false (not (is_some (range_of (range_value range)))) false parts.1).0) refl tests.0
 step_back all b c built e = absurd (false≢true built)
 
 -- what the commands of a session that break no rule have

@@ -11,9 +11,9 @@ use Rattle.machine.specs.declared.command.Opening.{Opening}
 use Rattle.machine.specs.declared.command.Opening.TheVariants as opening
 use Rattle.machine.specs.declared.command.Script.{Script}
 use Rattle.machine.specs.Answers.{opening_text}
-use Rattle.script.specs.declared.limits.TheConstants.{MAX_SHOWN}
+use Rattle.script.specs.declared.limits.TheConstants.{MAX_SHOWN, MAX_ID}
 use Rattle.script.specs.Parts.{within, coordinate, point_from, range_of}
-use Rattle.script.specs.ScriptDocument.{edit_of, look_of, ranged_of, bare_of, command_of, commands_of, session_of, sessions_of, opening_of, reading}
+use Rattle.script.specs.ScriptDocument.{edit_of, look_of, ranged_of, bare_of, unmark_of, mark_range_of, exclusive_of, compare_of, mark_of, on_marks_of, on_text_of, command_of, commands_of, session_of, sessions_of, opening_of, reading}
 use Rattle.script.specs.ScriptValue.{range_value, command_value, session_value, opening_value, script_value}
 use Rattle.script.specs.TranscriptDocument.{list_value}
 use Rattle.script.proofs.Counting.{range_in_order}
@@ -35,12 +35,17 @@ range_again r h =
     rw (start, end) (range_in_order r.start r.end r.ordered)
 
 command_again : (c : Command) → IsReadable c → command_of (command_value c) ≡ Some c
-unfolding command_of ranged_of bare_of edit_of look_of
+unfolding command_of on_text_of on_marks_of ranged_of bare_of edit_of look_of unmark_of mark_range_of exclusive_of compare_of mark_of
 command_again (command.Edit range text) h = rw (range_again range h) refl
 command_again (command.Text range limit) h = rw (range_again range h.0, le-leb limit MAX_SHOWN h.1) refl
 command_again command.Undo h = refl
 command_again command.Redo h = refl
 command_again command.Squash h = refl
+command_again (command.Unmark id) h = rw (le-leb id MAX_ID h) refl
+command_again (command.Range id) h = rw (le-leb id MAX_ID h) refl
+command_again (command.Exclusive id value) h = rw (le-leb id MAX_ID h) refl
+command_again (command.Compare a b) h = rw (le-leb a MAX_ID h.0, le-leb b MAX_ID h.1) refl
+command_again (command.Mark id range exclusive) h = rw (le-leb id MAX_ID h.0, range_again range h.1) refl
 command_again c h = absurd h
 
 commands_again : (cs : List Command) → AllByRecursion IsReadable cs → commands_of (items_of (map command_value cs)) ≡ Some cs

@@ -15,19 +15,19 @@ use Rattle.machine.specs.declared.command.Opening.TheVariants as opening
 use Rattle.machine.specs.declared.command.Script.{Script}
 use Rattle.points.specs.declared.limits.TheConstants.{MAX_COORD}
 use Rattle.machine.specs.Answers.{opening_text}
-use Rattle.script.specs.declared.limits.TheConstants.{MAX_SHOWN}
-use Rattle.script.specs.ScriptDocument.{edit_of, look_of, ranged_of, bare_of, command_of, commands_of, session_of, sessions_of, opening_of, reading}
-use Rattle.script.specs.Parts.{member_count, item_count, string_in, whole_of, whole_in, coordinate, point_from, range_by, range_between, range_of, range_in, is_word}
-use Rattle.script.specs.Rules.{is_version_one, is_one}
+use Rattle.script.specs.declared.limits.TheConstants.{MAX_SHOWN, MAX_ID}
+use Rattle.script.specs.ScriptDocument.{edit_of, look_of, ranged_of, bare_of, unmark_of, mark_range_of, exclusive_of, compare_of, mark_of, on_marks_of, on_text_of, command_of, commands_of, session_of, sessions_of, opening_of, reading}
+use Rattle.script.specs.Parts.{member_count, item_count, string_in, whole_of, whole_in, flag_in, coordinate, point_from, range_by, range_between, range_of, range_in, is_word}
+use Rattle.script.specs.Rules.{is_on_marks, is_version_one, is_one}
 use Rattle.script.specs.ScriptValue.{range_value, command_value, session_value, opening_value, script_value}
 use Rattle.script.specs.TranscriptDocument.{whole, list_value}
-use Rattle.script.proofs.KeyLemmas.{Ascend, all_keys, three_members, one_member}
+use Rattle.script.proofs.KeyLemmas.{Ascend, all_keys, two_members, three_members, four_members, one_member}
 use Rattle.script.proofs.KeyOrder.{IsInKeyOrder, ItemsInKeyOrder}
 use Rattle.script.proofs.LimitLemmas.{behind_map}
 use Rattle.script.proofs.Readable.{IsRangeWithin, IsReadable, IsReadableScript}
 use Rattle.serde_json.specs.Data.{Data, null, boolean, number, string, array, object, unsigned, negative, float, Items, no_items, item, no_members, member}
 use Rattle.serde_json.specs.View.{items_of}
-use Rattle.serde_json.specs.Find.{get, at, as_str, as_array, as_number, as_u64}
+use Rattle.serde_json.specs.Find.{get, at, as_str, as_bool, as_array, as_number, as_u64}
 
 -- a test that passed, and what stands behind it
 pub test_some : {A : Type 0} (b : Bool) (o : Option A) (y : A) → cond b o None ≡ Some y → (b ≡ true) × (o ≡ Some y)
@@ -236,12 +236,133 @@ bare_exact d c sorted n e =
     bare_cases d c (λ v. (d ≡ command_value v) × IsReadable v) e (λ word. (word_alone d (codes "undo") sorted n word, tt)) (λ word. (word_alone d (codes "redo") sorted n word, tt))
     (λ word. (word_alone d (codes "squash") sorted n word, tt))
 
-command_exact : (d : Data) (c : Command) → IsInKeyOrder d → command_of d ≡ Some c → (d ≡ command_value c) × IsReadable c
-unfolding command_of
-command_exact d c sorted e =
+-- the commands on marks, by their words
+pub mark_cases : (d : Data) (c : Command) (P : Type 0) → on_marks_of d ≡ Some c
+    → (string_in (codes "do") d ≡ Some (codes "unmark") → unmark_of d ≡ Some c → P)
+    → (string_in (codes "do") d ≡ Some (codes "range") → mark_range_of d ≡ Some c → P)
+    → (string_in (codes "do") d ≡ Some (codes "exclusive") → exclusive_of d ≡ Some c → P)
+    → (string_in (codes "do") d ≡ Some (codes "compare") → compare_of d ≡ Some c → P)
+    → (string_in (codes "do") d ≡ Some (codes "mark") → mark_of d ≡ Some c → P)
+    → P
+unfolding on_marks_of
+mark_cases d c P e k1 k2 k3 k4 k5 =
+    elim (either_some (is_word (string_in (codes "do") d) (codes "unmark")) (unmark_of d) _ c e) [
+      | inl is ↦ k1 (word_exact _ _ is.0) is.1
+      | inr rest1 ↦ elim (either_some (is_word (string_in (codes "do") d) (codes "range")) (mark_range_of d) _ c rest1) [
+        | inl is ↦ k2 (word_exact _ _ is.0) is.1
+        | inr rest2 ↦ elim (either_some (is_word (string_in (codes "do") d) (codes "exclusive")) (exclusive_of d) _ c rest2) [
+          | inl is ↦ k3 (word_exact _ _ is.0) is.1
+          | inr rest3 ↦ elim (either_some (is_word (string_in (codes "do") d) (codes "compare")) (compare_of d) _ c rest3) [
+            | inl is ↦ k4 (word_exact _ _ is.0) is.1
+            | inr rest4 ↦ let is = test_some (is_word (string_in (codes "do") d) (codes "mark")) (mark_of d) c rest4 in k5 (word_exact _ _ is.0) is.1
+          ]
+        ]
+      ]
+    ]
+
+pub flag_exact : (d : Data) (b : Bool) → as_bool d ≡ Some b → d ≡ boolean b
+flag_exact null b e = absurd (none-some b e)
+flag_exact (boolean x) b e = ap boolean (same_Some x b e)
+flag_exact (number n) b e = absurd (none-some b e)
+flag_exact (string t) b e = absurd (none-some b e)
+flag_exact (array ds) b e = absurd (none-some b e)
+flag_exact (object ms) b e = absurd (none-some b e)
+
+-- objects with two and with four members that have these keys
+two_of : (a b : List ℕ) (d : Data) → Ascend (a ∷ b ∷ []) → IsInKeyOrder d → member_count d ≡ 2 → is_some (get a d) ≡ true → is_some (get b d) ≡ true → (x y : Data) × (d ≡ object (member a x (member b y no_members)))
+two_of a b null up sorted n h i = absurd (omega arith)
+two_of a b (boolean v) up sorted n h i = absurd (omega arith)
+two_of a b (number v) up sorted n h i = absurd (omega arith)
+two_of a b (string s) up sorted n h i = absurd (omega arith)
+two_of a b (array ds) up sorted n h i = absurd (omega arith)
+two_of a b (object ms) up sorted n h i =
+    let found = two_members a b ms (all_keys (a ∷ b ∷ []) ms up sorted.0 (h, (i, tt)) (sym n)) in
+    (found.0, found.1, ap object found.2)
+
+four_of : (a b c k : List ℕ) (d : Data) → Ascend (a ∷ b ∷ c ∷ k ∷ []) → IsInKeyOrder d → member_count d ≡ 4 → is_some (get a d) ≡ true → is_some (get b d) ≡ true → is_some (get c d) ≡ true → is_some (get k d) ≡ true
+    → (x y z w : Data) × (d ≡ object (member a x (member b y (member c z (member k w no_members)))))
+four_of a b c k null up sorted n h i j l = absurd (omega arith)
+four_of a b c k (boolean v) up sorted n h i j l = absurd (omega arith)
+four_of a b c k (number v) up sorted n h i j l = absurd (omega arith)
+four_of a b c k (string s) up sorted n h i j l = absurd (omega arith)
+four_of a b c k (array ds) up sorted n h i j l = absurd (omega arith)
+four_of a b c k (object ms) up sorted n h i j l =
+    let found = four_members a b c k ms (all_keys (a ∷ b ∷ c ∷ k ∷ []) ms up sorted.0 (h, (i, (j, (l, tt)))) (sym n)) in
+    (found.0, found.1, found.2, found.3, ap object found.4)
+
+unmark_mark_exact : (d : Data) (c : Command) → IsInKeyOrder d → string_in (codes "do") d ≡ Some (codes "unmark") → unmark_of d ≡ Some c → (d ≡ command_value c) × IsReadable c
+unfolding unmark_of
+unmark_mark_exact d c sorted word e =
+    let t = test_some (member_count d == 2) _ c e in
+    behind_map command.Unmark (whole_in MAX_ID (codes "id") d) c t.1 (λ n n_is is.
+    let p = two_of (codes "do") (codes "id") d ((refl, tt), (tt, tt)) sorted (eqb-true (member_count d) 2 t.0) (there as_str _ _ word) (there (whole_of MAX_ID) _ _ n_is) in
+    let x = string_exact p.0 (codes "unmark") (subst (λ v. string_in (codes "do") v ≡ Some (codes "unmark")) p.2 word) in
+    let y = whole_exact MAX_ID n p.1 (subst (λ v. whole_in MAX_ID (codes "id") v ≡ Some n) p.2 n_is) in
+    subst (λ v. (d ≡ command_value v) × IsReadable v) is (p.2 ∙ cc (x, y.0), y.1))
+
+range_mark_exact : (d : Data) (c : Command) → IsInKeyOrder d → string_in (codes "do") d ≡ Some (codes "range") → mark_range_of d ≡ Some c → (d ≡ command_value c) × IsReadable c
+unfolding mark_range_of
+range_mark_exact d c sorted word e =
+    let t = test_some (member_count d == 2) _ c e in
+    behind_map command.Range (whole_in MAX_ID (codes "id") d) c t.1 (λ n n_is is.
+    let p = two_of (codes "do") (codes "id") d ((refl, tt), (tt, tt)) sorted (eqb-true (member_count d) 2 t.0) (there as_str _ _ word) (there (whole_of MAX_ID) _ _ n_is) in
+    let x = string_exact p.0 (codes "range") (subst (λ v. string_in (codes "do") v ≡ Some (codes "range")) p.2 word) in
+    let y = whole_exact MAX_ID n p.1 (subst (λ v. whole_in MAX_ID (codes "id") v ≡ Some n) p.2 n_is) in
+    subst (λ v. (d ≡ command_value v) × IsReadable v) is (p.2 ∙ cc (x, y.0), y.1))
+
+exclusive_exact : (d : Data) (c : Command) → IsInKeyOrder d → string_in (codes "do") d ≡ Some (codes "exclusive") → exclusive_of d ≡ Some c → (d ≡ command_value c) × IsReadable c
+unfolding exclusive_of
+exclusive_exact d c sorted word e =
+    let t = test_some (member_count d == 3) _ c e in
+    option_and_then_some (λ id. option_map (command.Exclusive id) (flag_in (codes "value") d)) (whole_in MAX_ID (codes "id") d) c t.1 (λ n n_is rest.
+    behind_map (command.Exclusive n) (flag_in (codes "value") d) c rest (λ b b_is is.
+    let p = three_of (codes "do") (codes "id") (codes "value") d ((refl, (refl, tt)), ((refl, tt), (tt, tt))) sorted (eqb-true (member_count d) 3 t.0) (there as_str _ _ word) (there (whole_of MAX_ID) _ _ n_is) (there as_bool _ _ b_is) in
+    let x = string_exact p.first (codes "exclusive") (subst (λ v. string_in (codes "do") v ≡ Some (codes "exclusive")) p.is word) in
+    let y = whole_exact MAX_ID n p.second (subst (λ v. whole_in MAX_ID (codes "id") v ≡ Some n) p.is n_is) in
+    let z = flag_exact p.third b (subst (λ v. flag_in (codes "value") v ≡ Some b) p.is b_is) in
+    subst (λ v. (d ≡ command_value v) × IsReadable v) is (three_made (codes "do") (codes "id") (codes "value") d p _ _ _ x y.0 z, y.1)))
+
+compare_exact : (d : Data) (c : Command) → IsInKeyOrder d → string_in (codes "do") d ≡ Some (codes "compare") → compare_of d ≡ Some c → (d ≡ command_value c) × IsReadable c
+unfolding compare_of
+compare_exact d c sorted word e =
+    let t = test_some (member_count d == 3) _ c e in
+    option_and_then_some (λ a. option_map (command.Compare a) (whole_in MAX_ID (codes "b") d)) (whole_in MAX_ID (codes "a") d) c t.1 (λ n n_is rest.
+    behind_map (command.Compare n) (whole_in MAX_ID (codes "b") d) c rest (λ m m_is is.
+    let p = three_of (codes "a") (codes "b") (codes "do") d ((refl, (refl, tt)), ((refl, tt), (tt, tt))) sorted (eqb-true (member_count d) 3 t.0) (there (whole_of MAX_ID) _ _ n_is) (there (whole_of MAX_ID) _ _ m_is) (there as_str _ _ word) in
+    let x = whole_exact MAX_ID n p.first (subst (λ v. whole_in MAX_ID (codes "a") v ≡ Some n) p.is n_is) in
+    let y = whole_exact MAX_ID m p.second (subst (λ v. whole_in MAX_ID (codes "b") v ≡ Some m) p.is m_is) in
+    let z = string_exact p.third (codes "compare") (subst (λ v. string_in (codes "do") v ≡ Some (codes "compare")) p.is word) in
+    subst (λ v. (d ≡ command_value v) × IsReadable v) is (three_made (codes "a") (codes "b") (codes "do") d p _ _ _ x.0 y.0 z, (x.1, y.1))))
+
+mark_exact : (d : Data) (c : Command) → IsInKeyOrder d → string_in (codes "do") d ≡ Some (codes "mark") → mark_of d ≡ Some c → (d ≡ command_value c) × IsReadable c
+unfolding mark_of
+mark_exact d c sorted word e =
+    let t = test_some (member_count d == 4) _ c e in
+    option_and_then_some (λ id. option_and_then (λ range. option_map (command.Mark id range) (flag_in (codes "exclusive") d)) (range_in d)) (whole_in MAX_ID (codes "id") d) c t.1 (λ n n_is more.
+    option_and_then_some (λ range. option_map (command.Mark n range) (flag_in (codes "exclusive") d)) (range_in d) c more (λ r r_is rest.
+    behind_map (command.Mark n r) (flag_in (codes "exclusive") d) c rest (λ b b_is is.
+    let p = four_of (codes "do") (codes "exclusive") (codes "id") (codes "range") d ((refl, (refl, (refl, tt))), ((refl, (refl, tt)), ((refl, tt), (tt, tt)))) sorted (eqb-true (member_count d) 4 t.0)
+    (there as_str _ _ word) (there as_bool _ _ b_is) (there (whole_of MAX_ID) _ _ n_is) (there range_of _ _ r_is) in
+    let x = string_exact p.0 (codes "mark") (subst (λ v. string_in (codes "do") v ≡ Some (codes "mark")) p.4 word) in
+    let y = flag_exact p.1 b (subst (λ v. flag_in (codes "exclusive") v ≡ Some b) p.4 b_is) in
+    let z = whole_exact MAX_ID n p.2 (subst (λ v. whole_in MAX_ID (codes "id") v ≡ Some n) p.4 n_is) in
+    let w = range_exact p.3 r (subst (λ v. range_in v ≡ Some r) p.4 r_is) in
+    subst (λ v. (d ≡ command_value v) × IsReadable v) is (p.4 ∙ cc (x, y, z.0, w.0), (z.1, w.1)))))
+
+on_text_exact : (d : Data) (c : Command) → IsInKeyOrder d → on_text_of d ≡ Some c → (d ≡ command_value c) × IsReadable c
+unfolding on_text_of
+on_text_exact d c sorted e =
     elim (either_some (member_count d == 3) (ranged_of d) _ c e) [
       | inl ranged ↦ ranged_exact d c sorted (eqb-true (member_count d) 3 ranged.0) ranged.1
       | inr other ↦ let bare = test_some (member_count d == 1) (bare_of d) c other in bare_exact d c sorted (eqb-true (member_count d) 1 bare.0) bare.1
+    ]
+
+command_exact : (d : Data) (c : Command) → IsInKeyOrder d → command_of d ≡ Some c → (d ≡ command_value c) × IsReadable c
+unfolding command_of
+command_exact d c sorted e =
+    elim (either_some (is_on_marks d) (on_marks_of d) _ c e) [
+      | inl marks ↦ mark_cases d c ((d ≡ command_value c) × IsReadable c) marks.1 (unmark_mark_exact d c sorted) (range_mark_exact d c sorted) (exclusive_exact d c sorted) (compare_exact d c sorted) (mark_exact d c sorted)
+      | inr text ↦ on_text_exact d c sorted text
     ]
 
 commands_exact : (ds : Items) (cs : List Command) → ItemsInKeyOrder ds → commands_of ds ≡ Some cs → (ds ≡ items_of (map command_value cs)) × AllByRecursion IsReadable cs

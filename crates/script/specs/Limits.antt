@@ -20,6 +20,11 @@ has_built_word (command.Text range limit) = true
 has_built_word command.Undo = true
 has_built_word command.Redo = true
 has_built_word command.Squash = true
+has_built_word (command.Unmark id) = true
+has_built_word (command.Range id) = true
+has_built_word (command.Exclusive id value) = true
+has_built_word (command.Compare a b) = true
+has_built_word (command.Mark id range exclusive) = true
 has_built_word c = false
 
 -- a command that shows a text

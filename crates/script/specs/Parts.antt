@@ -6,7 +6,7 @@ use Rattle.points.specs.declared.range.Range.{Range}
 use Rattle.points.specs.Point.{point_le}
 use Rattle.points.specs.declared.limits.TheConstants.{MAX_COORD}
 use Rattle.serde_json.specs.Data.{Data, null, boolean, number, string, array, object, Items, no_items, item, Members, no_members, member}
-use Rattle.serde_json.specs.Find.{get, at, as_u64, as_number, as_str, as_array}
+use Rattle.serde_json.specs.Find.{get, at, as_u64, as_number, as_str, as_bool, as_array}
 
 -- how many members an object has; nothing else has any
 abbrev pub count_members : Members → ℕ
@@ -50,6 +50,10 @@ whole_of limit d = option_and_then (within limit) (option_and_then as_u64 (as_nu
 
 abbrev pub whole_in : ℕ → List ℕ → Data → Option ℕ
 whole_in limit key d = option_and_then (whole_of limit) (get key d)
+
+-- whether a member is true or false
+abbrev pub flag_in : List ℕ → Data → Option Bool
+flag_in key d = option_and_then as_bool (get key d)
 
 -- a member is this word
 abbrev pub is_word : Option (List ℕ) → List ℕ → Bool

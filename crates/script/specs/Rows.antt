@@ -44,19 +44,19 @@ command_rows =
     ∷ (codes "text", look_fields)
     ∷ (codes "undo", [])
     ∷ (codes "redo", [])
+    ∷ (codes "squash", [])
     ∷ (codes "mark", (codes "id", whole MAX_ID) ∷ (codes "range", range) ∷ (codes "exclusive", flag) ∷ [])
     ∷ (codes "unmark", (codes "id", whole MAX_ID) ∷ [])
     ∷ (codes "exclusive", (codes "id", whole MAX_ID) ∷ (codes "value", flag) ∷ [])
     ∷ (codes "range", (codes "id", whole MAX_ID) ∷ [])
-    ∷ (codes "marks", (codes "how", how) ∷ (codes "range", range) ∷ [])
     ∷ (codes "compare", (codes "a", whole MAX_ID) ∷ (codes "b", whole MAX_ID) ∷ [])
+    ∷ (codes "marks", (codes "how", how) ∷ (codes "range", range) ∷ [])
     ∷ (codes "watch", (codes "id", whole MAX_ID) ∷ [])
     ∷ (codes "unwatch", (codes "id", whole MAX_ID) ∷ [])
     ∷ (codes "take", (codes "snapshot", whole MAX_ID) ∷ [])
     ∷ (codes "read", (codes "snapshot", whole MAX_ID) ∷ (codes "reads", reads) ∷ [])
     ∷ (codes "send", (codes "snapshot", whole MAX_ID) ∷ (codes "reads", reads) ∷ [])
     ∷ (codes "release", (codes "snapshot", whole MAX_ID) ∷ [])
-    ∷ (codes "squash", [])
     ∷ []
 
 -- the reads of a `read` or a `send`, by the word of `get`

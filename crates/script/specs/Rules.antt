@@ -199,7 +199,11 @@ abbrev pub bare_words : List (List ℕ)
 bare_words = codes "undo" ∷ codes "redo" ∷ codes "squash" ∷ []
 
 abbrev pub built_words : List (List ℕ)
-built_words = codes "edit" ∷ codes "text" ∷ bare_words
+built_words = codes "edit" ∷ codes "text" ∷ codes "unmark" ∷ codes "range" ∷ codes "exclusive" ∷ codes "compare" ∷ codes "mark" ∷ bare_words
+
+-- a command on marks that are named
+abbrev pub is_on_marks : Data → Bool
+is_on_marks d = is_one_of (codes "unmark" ∷ codes "range" ∷ codes "exclusive" ∷ codes "compare" ∷ codes "mark" ∷ []) (string_in (codes "do") d)
 
 -- a command whose word has no member beside it
 abbrev pub is_bare : Data → Bool

@@ -9,9 +9,9 @@ use Rattle.machine.specs.declared.command.Script.{Script}
 use Rattle.script.specs.declared.refusal.ScriptRefusal.{ScriptRefusal}
 use Rattle.script.specs.declared.refusal.ScriptRefusal.TheVariants.{Refused, NoMemory}
 use Rattle.script.specs.declared.refusal.ScriptRule.TheVariants.{NotJson}
-use Rattle.script.specs.Parts.{member_count, item_count, string_in, whole_in, is_word, range_in}
-use Rattle.script.specs.declared.limits.TheConstants.{MAX_SHOWN}
-use Rattle.script.specs.Rules.{Fault, is_version_one, built_place}
+use Rattle.script.specs.Parts.{member_count, item_count, string_in, whole_in, flag_in, is_word, range_in}
+use Rattle.script.specs.declared.limits.TheConstants.{MAX_SHOWN, MAX_ID}
+use Rattle.script.specs.Rules.{Fault, is_on_marks, is_version_one, built_place}
 use Rattle.serde_json.specs.Data.{Data, Items, no_items, item}
 use Rattle.serde_json.specs.Find.{get, at, as_array}
 use Rattle.serde_json.specs.Read.{read}
@@ -37,9 +37,37 @@ bare_of d =
     else (if is_word (string_in (codes "do") d) (codes "redo") then Some command.Redo
     else (if is_word (string_in (codes "do") d) (codes "squash") then Some command.Squash else None))
 
+-- on marks, each with the members that its word asks for
+unfoldable pub unmark_of : Data → Option Command
+unmark_of d = if member_count d == 2 then option_map command.Unmark (whole_in MAX_ID (codes "id") d) else None
+
+unfoldable pub mark_range_of : Data → Option Command
+mark_range_of d = if member_count d == 2 then option_map command.Range (whole_in MAX_ID (codes "id") d) else None
+
+unfoldable pub exclusive_of : Data → Option Command
+exclusive_of d = if member_count d == 3 then option_and_then (λ id. option_map (command.Exclusive id) (flag_in (codes "value") d)) (whole_in MAX_ID (codes "id") d) else None
+
+unfoldable pub compare_of : Data → Option Command
+compare_of d = if member_count d == 3 then option_and_then (λ a. option_map (command.Compare a) (whole_in MAX_ID (codes "b") d)) (whole_in MAX_ID (codes "a") d) else None
+
+unfoldable pub mark_of : Data → Option Command
+mark_of d = if member_count d == 4 then option_and_then (λ id. option_and_then (λ range. option_map (command.Mark id range) (flag_in (codes "exclusive") d)) (range_in d)) (whole_in MAX_ID (codes "id") d) else None
+
+unfoldable pub on_marks_of : Data → Option Command
+on_marks_of d =
+    if is_word (string_in (codes "do") d) (codes "unmark") then unmark_of d
+    else (if is_word (string_in (codes "do") d) (codes "range") then mark_range_of d
+    else (if is_word (string_in (codes "do") d) (codes "exclusive") then exclusive_of d
+    else (if is_word (string_in (codes "do") d) (codes "compare") then compare_of d
+    else (if is_word (string_in (codes "do") d) (codes "mark") then mark_of d else None))))
+
+-- on the text and its steps
+unfoldable pub on_text_of : Data → Option Command
+on_text_of d = if member_count d == 3 then ranged_of d else (if member_count d == 1 then bare_of d else None)
+
 -- a command: an object with `do` and the members that its word asks for
 unfoldable pub command_of : Data → Option Command
-command_of d = if member_count d == 3 then ranged_of d else (if member_count d == 1 then bare_of d else None)
+command_of d = if is_on_marks d then on_marks_of d else on_text_of d
 
 abbrev pub commands_of : Items → Option (List Command)
 commands_of no_items = Some []

@@ -2,12 +2,12 @@
 ghost use Rattle.std.specs.Prelude.{◌≡◌, ◌+◌, ◌==◌, ◌&&◌, not, codes, false, true, Some, None};
 ghost use Rattle.serde_json.specs.Find.{get};
 ghost use Rattle.serde_json.specs.View.{view, items_view};
-ghost use Rattle.script.specs.declared.limits.TheConstants.{MAX_SHOWN};
+ghost use Rattle.script.specs.declared.limits.TheConstants.{MAX_SHOWN, MAX_ID};
 ghost use Rattle.script.specs.Limits.{is_reading};
 ghost use Rattle.script.specs.Parts.{count_items};
 ghost use Rattle.script.specs.Reading.{IsFew, counted, has_room};
 ghost use Rattle.script.specs.Rows as kind;
-ghost use Rattle.script.specs.Rules.{at_start, command_tests, first_broken, field_breaks, wrong_kind, is_misshapen, is_bare, is_do, is_number, is_quadruple, any_item, one_if};
+ghost use Rattle.script.specs.Rules.{at_start, command_tests, first_broken, field_breaks, wrong_kind, is_misshapen, is_on_marks, is_do, is_number, is_quadruple, any_item, one_if};
 ghost use Rattle.script.specs.ScriptDocument.{command_of};
 
 use crate::limits::{MAX_COMMANDS, MAX_READINGS};
@@ -145,11 +145,35 @@ fn lacks_limit(value: &Value) -> bool
     }
 }
 
-// Whether the value's word is one of those that have no member beside them.
-fn is_bare(value: &Value) -> bool
-    ensures { result ≡ is_bare (view value.now) }
+// Whether the member is a number, as an id.
+fn lacks_id(value: &Value, key: &str) -> bool
+    ensures { result ≡ field_breaks wrong_kind true (kind.whole MAX_ID) (get key.now (view value.now)) }
 {
-    is_do(value, "undo") || is_do(value, "redo") || is_do(value, "squash")
+    match value.get(key) {
+        Some(id) => id.as_number().is_none(),
+        None => true,
+    }
+}
+
+// Whether the member is true or false.
+fn lacks_flag(value: &Value, key: &str) -> bool
+    ensures { result ≡ field_breaks wrong_kind true kind.flag (get key.now (view value.now)) }
+{
+    match value.get(key) {
+        Some(flag) => flag.as_bool().is_none(),
+        None => true,
+    }
+}
+
+/// Whether the value's word is one of those on marks that are named.
+pub(crate) fn is_on_marks(value: &Value) -> bool
+    ensures { result ≡ is_on_marks (view value.now) }
+{
+    is_do(value, "unmark")
+        || is_do(value, "range")
+        || is_do(value, "exclusive")
+        || is_do(value, "compare")
+        || is_do(value, "mark")
 }
 
 // Whether the shape of the command is broken, or its word isn't built.
@@ -162,8 +186,32 @@ fn is_misshapen(value: &Value) -> bool
     if is_do(value, "text") {
         return member_count(value) != 3 || lacks_range(value) || lacks_limit(value);
     }
-    if is_bare(value) {
+    if is_do(value, "undo") {
         return member_count(value) != 1;
+    }
+    if is_do(value, "redo") {
+        return member_count(value) != 1;
+    }
+    if is_do(value, "squash") {
+        return member_count(value) != 1;
+    }
+    if is_do(value, "mark") {
+        return member_count(value) != 4
+            || lacks_id(value, "id")
+            || lacks_range(value)
+            || lacks_flag(value, "exclusive");
+    }
+    if is_do(value, "unmark") {
+        return member_count(value) != 2 || lacks_id(value, "id");
+    }
+    if is_do(value, "exclusive") {
+        return member_count(value) != 3 || lacks_id(value, "id") || lacks_flag(value, "value");
+    }
+    if is_do(value, "range") {
+        return member_count(value) != 2 || lacks_id(value, "id");
+    }
+    if is_do(value, "compare") {
+        return member_count(value) != 3 || lacks_id(value, "a") || lacks_id(value, "b");
     }
     true
 }

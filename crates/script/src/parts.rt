@@ -2,7 +2,7 @@
 ghost use Rattle.std.specs.Prelude.{◌≡◌, ◌<◌};
 ghost use Rattle.serde_json.specs.Find.{get};
 ghost use Rattle.serde_json.specs.View.{view};
-ghost use Rattle.script.specs.Parts.{member_count, item_count, string_in, whole_of, whole_in, coordinate, point_from, range_between, range_of, range_in};
+ghost use Rattle.script.specs.Parts.{member_count, item_count, string_in, whole_of, whole_in, flag_in, coordinate, point_from, range_between, range_of, range_in};
 ghost use Rattle.script.specs.Reading.{Gives};
 ghost use Rattle.script.specs.declared.parts.Misfit.TheVariants.{NoMemory};
 
@@ -83,6 +83,13 @@ pub(crate) fn whole_in(limit: u32, value: &Value, key: &str) -> Result<u32, Misf
     ensures { Gives (λ n. n) result (whole_in limit key.now (view value.now)) }
 {
     whole_of(limit, member(value, key)?)
+}
+
+// Whether a member is true or false.
+pub(crate) fn flag_in(value: &Value, key: &str) -> Result<bool, Misfit>
+    ensures { Gives (λ b. b) result (flag_in key.now (view value.now)) }
+{
+    member(value, key)?.as_bool().ok_or(Misfit::Shape)
 }
 
 // The row or column at this place of a range.

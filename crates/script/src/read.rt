@@ -1,15 +1,15 @@
 //! From bytes to a script.
 ghost use Rattle.std.specs.Prelude.{◌≡◌, false, Some, None, IfOk, IfErr};
 ghost use Rattle.serde_json.specs.View.{view, items_view};
-ghost use Rattle.script.specs.ScriptDocument.{edit_of, look_of, ranged_of, bare_of, command_of, commands_of, opened_in, session_in, head_of, script_of, document, script_in, script_place, IsRefusalAt};
+ghost use Rattle.script.specs.ScriptDocument.{edit_of, look_of, ranged_of, bare_of, unmark_of, mark_range_of, exclusive_of, compare_of, mark_of, on_marks_of, on_text_of, command_of, commands_of, opened_in, session_in, head_of, script_of, document, script_in, script_place, IsRefusalAt};
 ghost use Rattle.script.specs.Rules.{at_start, command_tests, first_broken, is_version_one, place_in_session, built_place};
 ghost use Rattle.script.specs.Reading.{Gives, IsFew, IsRead, FaultIs, counted, one_session};
 ghost use Rattle.script.specs.Limits.{IsWithinLimits};
 
-use crate::before::{Before, CommandFault, broken_rule, shows_text};
+use crate::before::{Before, CommandFault, broken_rule, is_on_marks, shows_text};
 use crate::count::units_of;
-use crate::limits::MAX_SHOWN;
-use crate::parts::{Misfit, item_count, member, member_count, range_in, string_in, whole_in};
+use crate::limits::{MAX_ID, MAX_SHOWN};
+use crate::parts::{Misfit, flag_in, item_count, member, member_count, range_in, string_in, whole_in};
 use crate::refusal::{ScriptRefusal, ScriptRule};
 use machine::{Command, Opening, Script, Sequence, Text};
 use points::MAX_UNITS;
@@ -70,10 +70,105 @@ fn bare_of(value: &Value) -> Result<Command, Misfit>
     Err(Misfit::Shape)
 }
 
-// A command: each that is built has three members or one.
-#[tactic(auto, unfolding(crate::specs::ScriptDocument::command_of))]
-fn command_of(alloc: Global, value: &Value) -> Result<Command, Misfit>
-    ensures { Gives (λ c. c) result (command_of (view value.now)) }
+// The end of a mark.
+#[tactic(auto, unfolding(crate::specs::ScriptDocument::unmark_of))]
+fn unmark_of(value: &Value) -> Result<Command, Misfit>
+    ensures { Gives (λ c. c) result (unmark_of (view value.now)) }
+{
+    if member_count(value) != 2 {
+        return Err(Misfit::Shape);
+    }
+    let id = whole_in(MAX_ID, value, "id")?;
+    Ok(Command::Unmark { id })
+}
+
+// A question where a mark is.
+#[tactic(auto, unfolding(crate::specs::ScriptDocument::mark_range_of))]
+fn mark_range_of(value: &Value) -> Result<Command, Misfit>
+    ensures { Gives (λ c. c) result (mark_range_of (view value.now)) }
+{
+    if member_count(value) != 2 {
+        return Err(Misfit::Shape);
+    }
+    let id = whole_in(MAX_ID, value, "id")?;
+    Ok(Command::Range { id })
+}
+
+// Whether a mark is exclusive from now on.
+#[tactic(auto, unfolding(crate::specs::ScriptDocument::exclusive_of))]
+fn exclusive_of(value: &Value) -> Result<Command, Misfit>
+    ensures { Gives (λ c. c) result (exclusive_of (view value.now)) }
+{
+    if member_count(value) != 3 {
+        return Err(Misfit::Shape);
+    }
+    let id = whole_in(MAX_ID, value, "id")?;
+    let exclusive = flag_in(value, "value")?;
+    Ok(Command::Exclusive {
+        id,
+        value: exclusive,
+    })
+}
+
+// A comparison of two marks.
+#[tactic(auto, unfolding(crate::specs::ScriptDocument::compare_of))]
+fn compare_of(value: &Value) -> Result<Command, Misfit>
+    ensures { Gives (λ c. c) result (compare_of (view value.now)) }
+{
+    if member_count(value) != 3 {
+        return Err(Misfit::Shape);
+    }
+    let a = whole_in(MAX_ID, value, "a")?;
+    let b = whole_in(MAX_ID, value, "b")?;
+    Ok(Command::Compare { a, b })
+}
+
+// A new mark.
+#[tactic(auto, unfolding(crate::specs::ScriptDocument::mark_of))]
+fn mark_of(value: &Value) -> Result<Command, Misfit>
+    ensures { Gives (λ c. c) result (mark_of (view value.now)) }
+{
+    if member_count(value) != 4 {
+        return Err(Misfit::Shape);
+    }
+    let id = whole_in(MAX_ID, value, "id")?;
+    let range = range_in(value)?;
+    let exclusive = flag_in(value, "exclusive")?;
+    Ok(Command::Mark {
+        id,
+        range,
+        exclusive,
+    })
+}
+
+// A command on marks.
+#[tactic(auto, unfolding(crate::specs::ScriptDocument::on_marks_of))]
+fn on_marks_of(value: &Value) -> Result<Command, Misfit>
+    ensures { Gives (λ c. c) result (on_marks_of (view value.now)) }
+{
+    let word = string_in(value, "do")?;
+    if word == "unmark" {
+        return unmark_of(value);
+    }
+    if word == "range" {
+        return mark_range_of(value);
+    }
+    if word == "exclusive" {
+        return exclusive_of(value);
+    }
+    if word == "compare" {
+        return compare_of(value);
+    }
+    if word == "mark" {
+        return mark_of(value);
+    }
+    Err(Misfit::Shape)
+}
+
+// A command on the text and its steps: with three members or one.
+#[tactic(auto, unfolding(crate::specs::ScriptDocument::on_text_of))]
+fn on_text_of(alloc: Global, value: &Value) -> Result<Command, Misfit>
+    ensures { Gives (λ c. c) result (on_text_of (view value.now)) }
 {
     let count = member_count(value);
     if count == 3 {
@@ -83,6 +178,17 @@ fn command_of(alloc: Global, value: &Value) -> Result<Command, Misfit>
         return bare_of(value);
     }
     Err(Misfit::Shape)
+}
+
+// A command, by its word.
+#[tactic(auto, unfolding(crate::specs::ScriptDocument::command_of))]
+fn command_of(alloc: Global, value: &Value) -> Result<Command, Misfit>
+    ensures { Gives (λ c. c) result (command_of (view value.now)) }
+{
+    if is_on_marks(value) {
+        return on_marks_of(value);
+    }
+    on_text_of(alloc, value)
 }
 
 // A command that is read and counted, or the rule that it breaks.

@@ -1,11 +1,9 @@
-use Rattle.std.proofs.Common.{◌≡◌, ℕ, List, [], ◌∷◌, true, refl, sym, subst, ap, ◌∙◌}
+use Rattle.std.proofs.Common.{◌≡◌, ℕ, List, [], ◌∷◌, refl, sym, subst, ap, ◌∙◌}
 use Rattle.std.specs.Prelude.{Option, IsSomeAnd, ◌≤◌, length}
-use Rattle.std.specs.List.{AllByRecursion}
 use Rattle.points.specs.Text.{utf16_of, text_of}
 use Rattle.points.specs.declared.limits.TheConstants.{MAX_UNITS}
 use Rattle.machine.specs.declared.command.Command.{Command}
 use Rattle.machine.specs.Machine.{State, opened, after}
-use Rattle.script.specs.Limits.{has_built_word}
 use Rattle.machine.specs.Plain.{calls_of}
 use Rattle.buffer.specs.Seen.{state_of}
 use Rattle.buffer.specs.Sound.{IsSound}
