@@ -9,7 +9,9 @@ ghost use Rattle.script.specs.Limits.{IsWithinLimits};
 use crate::before::{Before, CommandFault, broken_rule, is_on_marks, shows_text};
 use crate::count::units_of;
 use crate::limits::{MAX_ID, MAX_SHOWN};
-use crate::parts::{Misfit, flag_in, item_count, member, member_count, range_in, string_in, whole_in};
+use crate::parts::{
+    Misfit, flag_in, item_count, member, member_count, range_in, string_in, whole_in,
+};
 use crate::refusal::{ScriptRefusal, ScriptRule};
 use machine::{Command, Opening, Script, Sequence, Text};
 use points::MAX_UNITS;
