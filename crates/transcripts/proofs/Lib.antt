@@ -1,2 +1,5 @@
 pub mod Lists
 pub mod Members
+pub mod Again
+pub mod Sound
+pub mod Whole

@@ -70,15 +70,15 @@ length-keys_from [] = refl
 length-keys_from (f ∷ fs) = ap suc (length-keys_from fs)
 
 -- An object in order that has as many members as there are fields in order, all of them there, is the object of the fields.
-pub object_is : (fs : List Field) (d : Data) → Ascend (keys_from fs) → IsInKeyOrder d → member_count d ≡ suc (length fs) → (f : Field) → Ascend (f.key ∷ keys_from fs) → AreIn (f ∷ fs) d → d ≡ object (members_from (f ∷ fs))
-object_is fs null up order n f ups are = absurd (omega arith)
-object_is fs (boolean b) up order n f ups are = absurd (omega arith)
-object_is fs (number m) up order n f ups are = absurd (omega arith)
-object_is fs (string s) up order n f ups are = absurd (omega arith)
-object_is fs (array ds) up order n f ups are = absurd (omega arith)
-object_is fs (object ms) up order n f ups are =
+pub object_is : (f : Field) (fs : List Field) (d : Data) → Ascend (keys_from (f ∷ fs)) → IsInKeyOrder d → member_count d ≡ suc (length fs) → AreIn (f ∷ fs) d → d ≡ object (members_from (f ∷ fs))
+object_is f fs null up order n are = absurd (omega arith)
+object_is f fs (boolean b) up order n are = absurd (omega arith)
+object_is f fs (number m) up order n are = absurd (omega arith)
+object_is f fs (string s) up order n are = absurd (omega arith)
+object_is f fs (array ds) up order n are = absurd (omega arith)
+object_is f fs (object ms) up order n are =
     let many : length (keys_from (f ∷ fs)) ≡ count_members ms = ap suc (length-keys_from fs) ∙ sym n in
-    ap object (are_members (f ∷ fs) ms ups (all_keys (keys_from (f ∷ fs)) ms ups order.0 (are_there (f ∷ fs) ms are) many) are)
+    ap object (are_members (f ∷ fs) ms up (all_keys (keys_from (f ∷ fs)) ms up order.0 (are_there (f ∷ fs) ms are) many) are)
 
 -- ---- a value within is in order
 
