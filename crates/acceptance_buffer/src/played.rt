@@ -46,14 +46,34 @@ fn play_all(
     let mut replies = Vec::new(alloc);
     for ask in asks {
         let command = command(alloc, *ask)?;
-        let reply = match &command {
-            Command::Watch { id } => watch(&mut buffer, *id, spare.pop()?),
-            Command::Unwatch { id } => unwatch(&mut buffer, *id),
-            _ => play(alloc, &mut buffer, &command),
-        };
-        replies.push(reply?).ok()?;
+        let reply = play_one(alloc, &mut buffer, &command, &mut spare)?;
+        replies.push(reply).ok()?;
     }
     Some(replies)
+}
+
+// Plays one. To attach a watcher takes one of those that are there.
+fn play_one(
+    alloc: Global,
+    buffer: &mut Buffer,
+    command: &Command,
+    spare: &mut Vec<Box<dyn Watcher>>,
+) -> Option<Reply>
+    requires sound { IsSound (state_of buffer.old) }
+    requires told { buffer.old.followers.watchers.told ≤ buffer.old.count }
+    requires stands { Stands (λ s. ⟦<Seat as Listens>⟧.kept s) buffer.old.followers.watchers.told buffer.old.followers.watchers.seats.items }
+    ensures sound { IsSound (state_of buffer.new) }
+    ensures told { buffer.new.followers.watchers.told ≤ buffer.new.count }
+    ensures stands { Stands (λ s. ⟦<Seat as Listens>⟧.kept s) buffer.new.followers.watchers.told buffer.new.followers.watchers.seats.items }
+{
+    match command {
+        Command::Watch { id } => {
+            let watcher = spare.pop()?;
+            watch(buffer, *id, watcher)
+        }
+        Command::Unwatch { id } => unwatch(buffer, *id),
+        _ => play(alloc, buffer, command),
+    }
 }
 
 // Plays a call, or a squash, that brings no watcher.
