@@ -45,7 +45,7 @@ fn shelf_of_400(alloc: Global) -> Option<Shelf> {
 }
 
 // Puts the layer on the shelf, where its top is still the one that the layer was built on.
-fn put(shelf: &mut Shelf, layer: NewLayer) -> bool {
+pub(crate) fn put(shelf: &mut Shelf, layer: NewLayer) -> bool {
     if shelf.free() == 0 || !shelf.still(&layer) {
         return false;
     }
@@ -86,7 +86,7 @@ fn has_shape(shelf: &Shelf, expected: &[(u32, u64)]) -> bool {
     }
 }
 
-fn top_reader(shelf: &Shelf) -> Option<Reader> {
+pub(crate) fn top_reader(shelf: &Shelf) -> Option<Reader> {
     let top = shelf.top();
     if shelf.live(top) {
         shelf.reader(top).ok()
@@ -118,7 +118,7 @@ fn same_text(left: &Reader, right: &Reader) -> bool {
     }
 }
 
-fn squash(shelf: &mut Shelf) -> bool {
+pub(crate) fn squash(shelf: &mut Shelf) -> bool {
     match shelf.build_squash() {
         Ok(Some(layer)) => put(shelf, layer),
         _ => false,
@@ -129,7 +129,7 @@ fn has_no_squash(shelf: &Shelf) -> bool {
     matches!(shelf.build_squash(), Ok(None))
 }
 
-fn rebase(shelf: &mut Shelf) -> bool {
+pub(crate) fn rebase(shelf: &mut Shelf) -> bool {
     match shelf.build_base() {
         Ok(layer) => put(shelf, layer),
         Err(_) => false,

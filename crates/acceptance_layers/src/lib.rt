@@ -4,3 +4,5 @@
 
 #[cfg(test)]
 mod layers_tests;
+#[cfg(test)]
+mod shelf_runs_tests;

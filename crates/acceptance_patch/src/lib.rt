@@ -1,13 +1,7 @@
-//! Tests of patches, and of what stands on them: steps, watchers and texts in layers.
+//! Tests of patches, and of what stands on them: patches as functions, steps and watchers.
 //! A crate whose tests stand here is proved once, and not a second time with them.
 #![tactic(auto)]
 
-#[cfg(test)]
-mod chain_clips_tests;
-#[cfg(test)]
-mod chain_edits_tests;
-#[cfg(test)]
-mod chains_tests;
 #[cfg(test)]
 mod edit_history_tests;
 #[cfg(test)]
@@ -18,8 +12,6 @@ mod patch_cases;
 mod patch_tests;
 #[cfg(test)]
 mod splice_runs_tests;
-#[cfg(test)]
-mod squash_tests;
 #[cfg(test)]
 mod tagged_runs;
 #[cfg(test)]

@@ -1,6 +1,5 @@
-//! Edits of a text in layers: into which layer they go, and what a layer counts of them. One layer equals a patch that is
-//! spliced alike.
-use crate::tagged_runs::{Edit, Numbers, Way, spliced, text_of, units_of, way_of};
+//! Edits of a text in layers: into which layer they go, and what a layer counts of them.
+use crate::chain_cases::text_of;
 use chains::Chain;
 use line_text::LineText;
 use points::{MAX_UNITS, Units};
@@ -104,45 +103,5 @@ fn ninth_layer_makes_a_base(rt: HostRuntime) -> Result<(), Fail> {
     chain = sprinkled(rt.alloc(), chain, 448, 449)?;
     assert!(rt; has_sizes(rt.alloc(), &chain, &[(0, 0)])?);
     assert!(rt; chain.len() == 2449);
-    Ok(())
-}
-
-// Whether the newest layer of the chain counts what the patch of the way counts, and gives the same text.
-fn is_alike(alloc: Global, chain: &Chain, way: &Way) -> Result<bool, Fail> {
-    let changes = u32::try_from(way.patch.count()).unwrap_or(u32::MAX);
-    Ok(
-        has_sizes(alloc, chain, &[(0, 0), (changes, way.patch.units())])?
-            && has_units(alloc, chain, units_of(&way.text))?,
-    )
-}
-
-// The chain after an edit.
-fn after(alloc: Global, chain: &Chain, edit: &Edit) -> Result<Chain, Fail> {
-    edited(alloc, chain, edit.from, edit.to, edit.units.as_slice())
-}
-
-// Whether a layer and a patch stay alike through eight random edits of a random text.
-fn run_is_alike(alloc: Global, numbers: &mut Numbers) -> Result<bool, Fail> {
-    let units = [10, 13, 97, 97];
-    let original = LineText::from_units(numbers.units(alloc, 12, &units)?)?;
-    let mut way = way_of(alloc, &original)?;
-    let mut chain = Chain::of(alloc, text_of(alloc, units_of(&original))?)?;
-    for _ in 0..8 {
-        let edit = numbers.edit(alloc, way.text.len(), &units)?;
-        way = spliced(alloc, &original, way, &edit)?;
-        chain = after(alloc, &chain, &edit)?;
-        if !is_alike(alloc, &chain, &way)? {
-            return Ok(false);
-        }
-    }
-    Ok(true)
-}
-
-#[test]
-fn layer_counts_as_a_patch(rt: HostRuntime) -> Result<(), Fail> {
-    let mut numbers = Numbers { state: 14 };
-    for _ in 0..100 {
-        assert!(rt; run_is_alike(rt.alloc(), &mut numbers)?);
-    }
     Ok(())
 }

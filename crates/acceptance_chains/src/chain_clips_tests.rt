@@ -1,5 +1,6 @@
 //! A text whose endings, pairs and rows are cut apart by layers: points are clipped, and rows and ranges are read, as on
 //! the flat text.
+use crate::chain_cases::text_of;
 use chains::{Chain, Spot};
 use line_text::LineText;
 use points::{MAX_UNITS, NoMemory, Point, Range, Units};
@@ -8,12 +9,6 @@ use std::test::Fail;
 
 fn at(row: u32, column: u32) -> Point {
     Point { row, column }
-}
-
-fn text_of(alloc: Global, units: &[u16]) -> Result<LineText, Fail> {
-    let mut list = Units::new(alloc);
-    list.append(units)?;
-    Ok(LineText::from_units(list)?)
 }
 
 // The text with one layer more, which puts these units in at an offset, where it has room for them.
