@@ -13,6 +13,7 @@ pub mod DocumentPlaces
 pub mod CommandLoop
 pub mod Documents
 pub mod Apart
+pub mod WrittenLemmas
 pub mod Whole
 pub mod TextsApart
 pub mod ReadBack

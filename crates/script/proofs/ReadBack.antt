@@ -1,12 +1,14 @@
 -- The text of a transcript reads back as the transcript's value.
-use Rattle.std.proofs.Common.{◌≡◌, ◌≤◌, ℕ, List, [], ◌∷◌, ◌++◌, map, Bool, true, false, cond, ◌&&◌, Some, option_and_then, IsUtf8, refl, sym, ap, ap₂, ◌∙◌, arith, append_assoc, append-nil, subst}
+use Rattle.std.proofs.Common.{◌≡◌, ◌≤◌, ℕ, suc, max, List, [], ◌∷◌, ◌++◌, map, Bool, true, false, cond, ◌&&◌, Some, option_and_then, IsUtf8, refl, sym, ap, ap₂, ◌∙◌, arith, append_assoc, append-nil, subst}
 use Rattle.std.proofs.lemmas.Str.{IsUtf8-append}
-use Rattle.json.specs.Token.{Token, begin_object, end_object, begin_array, end_array, key, string, number, boolean, null, bad}
+use Rattle.json.specs.Token.{Token, begin_object, end_object, begin_array, end_array, key, bad}
+use Rattle.json.specs.Token as lexed
 use Rattle.json.specs.Word.{ends_word, word}
 use Rattle.json.specs.Lex.{Lexeme, token, comma, colon, string_token, lex, between, fresh, punctuate, tokens}
 use Rattle.json.specs.Json as json
 use Rattle.json.specs.Print.{escape, quoted, token_text, begins, ends, separator, print_from, print, IsPrintable, ArePrintable}
 use Rattle.json.specs.Tree as tree
+use Rattle.json.specs.Written as writer
 use Rattle.json.proofs.Numbered.{ArePrintableOrBad-tokens, value-HasNumbers}
 use Rattle.json.proofs.Printed.Numbers.{lex-number, in_word-ended}
 use Rattle.json.proofs.Printed.Strings.{content-escape, lex-escape}
@@ -20,10 +22,11 @@ use Rattle.machine.specs.declared.reply.Transcript.{Transcript}
 use Rattle.script.specs.ScriptDocument.{document}
 use Rattle.script.specs.TranscriptDocument.{whole, span_value, part_value, answer_value, reply_value, replies_value, transcript_value}
 use Rattle.script.proofs.Documents.{document_is}
-use Rattle.serde_json.specs.Data.{Data, depth, items_depth}
+use Rattle.script.specs.Written.{tokens_of, WritesValue}
+use Rattle.serde_json.specs.Data.{Data, null, boolean, number, string, array, object, Items, no_items, item, Members, no_members, member, depth, items_depth, members_depth}
 use Rattle.serde_json.specs.Read.{read, max_depth, of_json}
 use Rattle.serde_json.specs.View.{items_of}
-use Rattle.serde_json.specs.Written.{IsInOrder}
+use Rattle.serde_json.specs.Written.{outline, items_outline, members_outline}
 
 -- ---- how deep the value of a transcript is
 
@@ -51,7 +54,7 @@ transcript_value-depth t = omega (arith, list-depth replies_value 6 replies-dept
 
 -- ---- a printed text has the same lexemes with white space behind it
 
-read_quoted : (s r : List ℕ) → lex between (quoted s ++ r) ≡ token (string s) ∷ lex between r
+read_quoted : (s r : List ℕ) → lex between (quoted s ++ r) ≡ token (lexed.string s) ∷ lex between r
 unfolding lex
 read_quoted s r =
     ap (λ l. lex between (34 ∷ l)) (append_assoc (escape s) (34 ∷ []) r)
@@ -64,12 +67,12 @@ read_token begin_object h = (token begin_object ∷ [], λ r ended. refl)
 read_token end_object h = (token end_object ∷ [], λ r ended. refl)
 read_token begin_array h = (token begin_array ∷ [], λ r ended. refl)
 read_token end_array h = (token end_array ∷ [], λ r ended. refl)
-read_token (key s) h = (token (string s) ∷ colon ∷ [], λ r ended. ap (lex between) (append_assoc (quoted s) (58 ∷ []) r) ∙ read_quoted s (58 ∷ r))
-read_token (string s) h = (token (string s) ∷ [], λ r ended. read_quoted s r)
-read_token (number s) h = (token (number s) ∷ [], λ r ended. lex-number s r h (ended refl))
-read_token (boolean true) h = (token (boolean true) ∷ [], λ r ended. ap₂ (λ b l. token (cond b (boolean true) bad) ∷ l) (ended refl) (in_word-ended r (ended refl)))
-read_token (boolean false) h = (token (boolean false) ∷ [], λ r ended. ap₂ (λ b l. token (cond b (boolean false) bad) ∷ l) (ended refl) (in_word-ended r (ended refl)))
-read_token null h = (token null ∷ [], λ r ended. ap₂ (λ b l. token (cond b null bad) ∷ l) (ended refl) (in_word-ended r (ended refl)))
+read_token (key s) h = (token (lexed.string s) ∷ colon ∷ [], λ r ended. ap (lex between) (append_assoc (quoted s) (58 ∷ []) r) ∙ read_quoted s (58 ∷ r))
+read_token (lexed.string s) h = (token (lexed.string s) ∷ [], λ r ended. read_quoted s r)
+read_token (lexed.number s) h = (token (lexed.number s) ∷ [], λ r ended. lex-number s r h (ended refl))
+read_token (lexed.boolean true) h = (token (lexed.boolean true) ∷ [], λ r ended. ap₂ (λ b l. token (cond b (lexed.boolean true) bad) ∷ l) (ended refl) (in_word-ended r (ended refl)))
+read_token (lexed.boolean false) h = (token (lexed.boolean false) ∷ [], λ r ended. ap₂ (λ b l. token (cond b (lexed.boolean false) bad) ∷ l) (ended refl) (in_word-ended r (ended refl)))
+read_token lexed.null h = (token lexed.null ∷ [], λ r ended. ap₂ (λ b l. token (cond b lexed.null bad) ∷ l) (ended refl) (in_word-ended r (ended refl)))
 read_token bad h = absurd h
 
 -- after a value stands a comma, a closing bracket or the text behind
@@ -81,10 +84,10 @@ after_value_ends (end_object ∷ ts) r e = refl
 after_value_ends (begin_array ∷ ts) r e = refl
 after_value_ends (end_array ∷ ts) r e = refl
 after_value_ends (key s ∷ ts) r e = refl
-after_value_ends (string s ∷ ts) r e = refl
-after_value_ends (number s ∷ ts) r e = refl
-after_value_ends (boolean b ∷ ts) r e = refl
-after_value_ends (null ∷ ts) r e = refl
+after_value_ends (lexed.string s ∷ ts) r e = refl
+after_value_ends (lexed.number s ∷ ts) r e = refl
+after_value_ends (lexed.boolean b ∷ ts) r e = refl
+after_value_ends (lexed.null ∷ ts) r e = refl
 after_value_ends (bad ∷ ts) r e = refl
 
 regroup : (a b c r : List ℕ) → (a ++ (b ++ c)) ++ r ≡ a ++ (b ++ (c ++ r))
@@ -130,14 +133,35 @@ tokens-line_feed text j written e =
 
 -- ---- the whole
 
+mutual
+  outline-depth : (d : Data) → tree.depth (outline d) ≡ depth d
+  outline-depth null = refl
+  outline-depth (boolean b) = refl
+  outline-depth (number n) = refl
+  outline-depth (string s) = refl
+  outline-depth (array ds) = ap suc (items_outline-depth ds)
+  outline-depth (object ms) = ap suc (members_outline-depth ms)
+
+  items_outline-depth : (ds : Items) → tree.items_depth (items_outline ds) ≡ items_depth ds
+  items_outline-depth no_items = refl
+  items_outline-depth (item d ds) = ap₂ max (outline-depth d) (items_outline-depth ds)
+
+  members_outline-depth : (ms : Members) → tree.members_depth (members_outline ms) ≡ members_depth ms
+  members_outline-depth no_members = refl
+  members_outline-depth (member k d ms) = ap₂ max (outline-depth d) (members_outline-depth ms)
+
 line_feed_is_utf8 : IsUtf8 (10 ∷ [])
 line_feed_is_utf8 = IsUtf8-are_ascii (10 ∷ []) refl
 
--- what is written of a transcript's value, with a line feed behind it, is a document with that value
-pub transcript_reads_back : (t : Transcript) (d : Data) (bytes all : List ℕ) → d ≡ transcript_value t → IsUtf8 bytes → bytes ≡ print (tokens bytes) → IsInOrder bytes d
-    → (depth d ≤ max_depth → read bytes ≡ Some d) → all ≡ bytes ++ 10 ∷ [] → document all ≡ Some (transcript_value t)
-transcript_reads_back t d bytes all is utf8 written order reads last =
-    let shallow : depth d ≤ max_depth = omega (arith, ap depth is, transcript_value-depth t) in
-    let same = tokens-line_feed bytes order.0 written order.1 in
-    let back = ap (λ ts. option_and_then of_json (option_and_then (λ p. json.if_last p.0 p.1) (json.value max_depth ts))) same ∙ reads shallow ∙ ap Some is in
-    ap document last ∙ document_is (bytes ++ 10 ∷ []) (Some (transcript_value t)) (IsUtf8-append bytes (10 ∷ []) utf8 line_feed_is_utf8) back
+-- the tokens of a transcript's value, printed with a line feed behind them, are a document with that value
+pub transcript_reads_back : (t : Transcript) (start end : writer.Written) (bytes all : List ℕ) → start.before ≡ [] → start.tokens ≡ [] → WritesValue start end (transcript_value t)
+    → bytes ≡ end.before ++ print end.tokens → tokens (print end.tokens) ≡ end.tokens → IsUtf8 (print end.tokens) → all ≡ bytes ++ 10 ∷ [] → document all ≡ Some (transcript_value t)
+transcript_reads_back t start end bytes all before none w is same utf8 last =
+    let d = transcript_value t in
+    let text = print end.tokens in
+    let printed : bytes ≡ text = is ∙ ap (λ b. b ++ text) (w.adds.before ∙ before) in
+    let there : tokens text ≡ tokens_of d = same ∙ w.adds.tokens ∙ ap (λ ts. ts ++ tokens_of d) none in
+    let fed = tokens-line_feed text (outline d) (ap print (sym same)) there ∙ there in
+    let parsed = ap (json.value max_depth) (fed ∙ sym (append-nil (tokens_of d))) ∙ value-json_tokens (outline d) max_depth [] (omega (arith, outline-depth d, transcript_value-depth t)) in
+    let back : read (text ++ 10 ∷ []) ≡ Some d = ap (λ r. option_and_then of_json (option_and_then (λ p. json.if_last p.0 p.1) r)) parsed ∙ w.readable in
+    ap document (last ∙ ap (λ b. b ++ 10 ∷ []) printed) ∙ document_is (text ++ 10 ∷ []) (Some d) (IsUtf8-append text (10 ∷ []) utf8 line_feed_is_utf8) back

@@ -7,4 +7,5 @@ pub mod ScriptValue
 pub mod ScriptDocument
 pub mod Reading
 pub mod TranscriptDocument
+pub mod Written
 pub mod DocumentLaws

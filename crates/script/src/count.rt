@@ -6,6 +6,16 @@ ghost use Rattle.points.specs.Text.{utf16_of};
 pub(crate) fn units_of(text: &str) -> usize
     ensures { result ≡ length (utf16_of text.now) }
 {
+    if text.is_ascii() {
+        return text.len();
+    }
+    count_units(text)
+}
+
+// The units, character by character.
+fn count_units(text: &str) -> usize
+    ensures { result ≡ length (utf16_of text.now) }
+{
     let mut units = 0;
     for c in text.chars() {
         units += c.len_utf16();

@@ -1,16 +1,16 @@
-//! The JSON values of replies, and of the answers to reads: one form each.
-ghost use Rattle.std.specs.Prelude.{◌≡◌, IfOk};
+//! Replies, and the answers to reads, as JSON: one form each.
+ghost use Rattle.std.specs.Prelude.{◌≡◌, OnOk};
 ghost use Rattle.machine.specs.declared.reads.ReadAnswer.TheVariants as answer;
 ghost use Rattle.machine.specs.declared.reply.Reply.TheVariants as reply;
 ghost use Rattle.serde_json.specs.Data.{string};
-ghost use Rattle.serde_json.specs.View.{view};
 ghost use Rattle.script.specs.TranscriptDocument.{refusal_word, order_word, part_value, answer_value, reply_value};
+ghost use Rattle.script.specs.Written.{WritesValue};
 
-use crate::values::{HasValue, one, two, with};
+use crate::values::{HasValue, write_member, write_one, write_two};
+use json::Writer;
 use machine::{CallRefusal, HitNumbers, ReadAnswer, Reply, ReplyPart, Sequence, Span, Text};
 use points::{MarkOrder, Point};
-use serde_json::{Map, Value};
-use std::alloc::{AllocError, Global};
+use std::alloc::AllocError;
 
 // The word of a refusal.
 fn refusal_word(refusal: CallRefusal) -> &'static str
@@ -31,8 +31,8 @@ fn refusal_word(refusal: CallRefusal) -> &'static str
 impl HasValue for CallRefusal {
     ghost json = { λ refusal. string (refusal_word refusal) };
 
-    fn value(&self, alloc: Global) -> Result<Value, AllocError> {
-        Value::try_from_str(alloc, refusal_word(*self))
+    fn write(&self, out: &mut Writer) -> Result<(), AllocError> {
+        out.string(refusal_word(*self))
     }
 }
 
@@ -50,20 +50,21 @@ fn order_word(order: MarkOrder) -> &'static str
 impl HasValue for MarkOrder {
     ghost json = { λ order. string (order_word order) };
 
-    fn value(&self, alloc: Global) -> Result<Value, AllocError> {
-        Value::try_from_str(alloc, order_word(*self))
+    fn write(&self, out: &mut Writer) -> Result<(), AllocError> {
+        out.string(order_word(*self))
     }
 }
 
 impl HasValue for ReplyPart {
     ghost json = { part_value };
 
-    fn value(&self, alloc: Global) -> Result<Value, AllocError> {
-        let members = with(Map::new(alloc), alloc, "end", &self.end)?;
-        let members = with(members, alloc, "from", &self.from)?;
-        let members = with(members, alloc, "hits", &self.hits)?;
-        let members = with(members, alloc, "to", &self.to)?;
-        Ok(Value::Object(members))
+    fn write(&self, out: &mut Writer) -> Result<(), AllocError> {
+        out.begin_object()?;
+        write_member("end", &self.end, out)?;
+        write_member("from", &self.from, out)?;
+        write_member("hits", &self.hits, out)?;
+        write_member("to", &self.to, out)?;
+        out.end_object()
     }
 }
 
@@ -72,12 +73,12 @@ impl HasValue for ReplyPart {
 impl HasValue for ReadAnswer {
     ghost json = { answer_value };
 
-    fn value(&self, alloc: Global) -> Result<Value, AllocError> {
+    fn write(&self, out: &mut Writer) -> Result<(), AllocError> {
         match self {
-            ReadAnswer::Size { extent, units } => two(alloc, "extent", extent, "units", units),
-            ReadAnswer::Text { text, units } => two(alloc, "text", text, "units", units),
-            ReadAnswer::Found { count, hits } => two(alloc, "count", count, "hits", hits),
-            ReadAnswer::Saved { bytes } => one(alloc, "bytes", bytes),
+            ReadAnswer::Size { extent, units } => write_two("extent", extent, "units", units, out),
+            ReadAnswer::Text { text, units } => write_two("text", text, "units", units, out),
+            ReadAnswer::Found { count, hits } => write_two("count", count, "hits", hits, out),
+            ReadAnswer::Saved { bytes } => write_one("bytes", bytes, out),
         }
     }
 }
@@ -85,48 +86,53 @@ impl HasValue for ReadAnswer {
 // ---- the replies
 
 // An edit.
-fn edited_value(
-    alloc: Global,
-    at: u64,
+fn write_edited(
+    at: &u64,
     end: &Point,
     from: &Point,
     hits: &HitNumbers,
     to: &Point,
-) -> Result<Value, AllocError>
-    ensures { IfOk result (λ v. view v ≡ reply_value (reply.Edited at end.now from.now hits.now to.now)) }
+    out: &mut Writer,
+) -> Result<(), AllocError>
+    ensures { OnOk result (WritesValue out.old out.new
+        (reply_value (reply.Edited at.now end.now from.now hits.now to.now))) }
 {
-    let members = with(Map::new(alloc), alloc, "at", &at)?;
-    let members = with(members, alloc, "end", end)?;
-    let members = with(members, alloc, "from", from)?;
-    let members = with(members, alloc, "hits", hits)?;
-    let members = with(members, alloc, "to", to)?;
-    Ok(Value::Object(members))
+    out.begin_object()?;
+    write_member("at", at, out)?;
+    write_member("end", end, out)?;
+    write_member("from", from, out)?;
+    write_member("hits", hits, out)?;
+    write_member("to", to, out)?;
+    out.end_object()
 }
 
 // A text shown by a command.
-fn text_value(alloc: Global, at: u64, text: &Text, units: u64) -> Result<Value, AllocError>
-    ensures { IfOk result (λ v. view v ≡ reply_value (reply.Text at text.now units)) }
+fn write_text(at: &u64, text: &Text, units: &u64, out: &mut Writer) -> Result<(), AllocError>
+    ensures { OnOk result (WritesValue out.old out.new (reply_value (reply.Text at.now text.now units.now))) }
 {
-    let members = with(Map::new(alloc), alloc, "at", &at)?;
-    let members = with(members, alloc, "text", text)?;
-    let members = with(members, alloc, "units", &units)?;
-    Ok(Value::Object(members))
+    out.begin_object()?;
+    write_member("at", at, out)?;
+    write_member("text", text, out)?;
+    write_member("units", units, out)?;
+    out.end_object()
 }
 
 // Where a mark is.
-fn range_value(alloc: Global, at: u64, exclusive: bool, range: &Span) -> Result<Value, AllocError>
-    ensures { IfOk result (λ v. view v ≡ reply_value (reply.Range at exclusive range.now)) }
+fn write_range(at: &u64, exclusive: &bool, range: &Span, out: &mut Writer) -> Result<(), AllocError>
+    ensures { OnOk result (WritesValue out.old out.new
+        (reply_value (reply.Range at.now exclusive.now range.now))) }
 {
-    let members = with(Map::new(alloc), alloc, "at", &at)?;
-    let members = with(members, alloc, "exclusive", &exclusive)?;
-    let members = with(members, alloc, "range", range)?;
-    Ok(Value::Object(members))
+    out.begin_object()?;
+    write_member("at", at, out)?;
+    write_member("exclusive", exclusive, out)?;
+    write_member("range", range, out)?;
+    out.end_object()
 }
 
 impl HasValue for Reply {
     ghost json = { reply_value };
 
-    fn value(&self, alloc: Global) -> Result<Value, AllocError> {
+    fn write(&self, out: &mut Writer) -> Result<(), AllocError> {
         match self {
             Reply::Edited {
                 at,
@@ -134,22 +140,22 @@ impl HasValue for Reply {
                 from,
                 hits,
                 to,
-            } => edited_value(alloc, *at, end, from, hits, to),
-            Reply::Batched { at, edits } => two(alloc, "at", at, "edits", edits),
-            Reply::Text { at, text, units } => text_value(alloc, *at, text, *units),
-            Reply::Numbered { at } => one(alloc, "at", at),
+            } => write_edited(at, end, from, hits, to, out),
+            Reply::Batched { at, edits } => write_two("at", at, "edits", edits, out),
+            Reply::Text { at, text, units } => write_text(at, text, units, out),
+            Reply::Numbered { at } => write_one("at", at, out),
             Reply::Range {
                 at,
                 exclusive,
                 range,
-            } => range_value(alloc, *at, *exclusive, range),
-            Reply::Marks { at, ids } => two(alloc, "at", at, "ids", ids),
-            Reply::Order { at, order } => two(alloc, "at", at, "order", order),
-            Reply::Heard { at, heard } => two(alloc, "at", at, "heard", heard),
-            Reply::Refused { at, no } => two(alloc, "at", at, "no", no),
-            Reply::Taken { version } => one(alloc, "version", version),
-            Reply::Answered { answers } => one(alloc, "answers", answers),
-            Reply::Nothing => Ok(Value::Null),
+            } => write_range(at, exclusive, range, out),
+            Reply::Marks { at, ids } => write_two("at", at, "ids", ids, out),
+            Reply::Order { at, order } => write_two("at", at, "order", order, out),
+            Reply::Heard { at, heard } => write_two("at", at, "heard", heard, out),
+            Reply::Refused { at, no } => write_two("at", at, "no", no, out),
+            Reply::Taken { version } => write_one("version", version, out),
+            Reply::Answered { answers } => write_one("answers", answers, out),
+            Reply::Nothing => out.null(),
         }
     }
 }

@@ -1,134 +1,126 @@
-//! The JSON values of what a document holds: of numbers, texts, points and lists, and of objects member by member.
-ghost use Rattle.std.specs.Prelude.{◌≡◌, map, IfOk};
-ghost use Rattle.serde_json.specs.Data.{Data, boolean, string, object, no_members, member, put as with_member};
-ghost use Rattle.serde_json.specs.View.{view, items_of, items_view, members_view};
+//! Writing what a document holds as JSON: numbers, texts, points and lists, and objects member by member.
+ghost use Rattle.std.specs.Prelude.{OnOk};
+ghost use Rattle.serde_json.specs.Data.{Data, boolean, string, object, no_members, member};
 ghost use Rattle.script.specs.TranscriptDocument.{whole, point_value, span_value, hits_value, list_value};
+ghost use Rattle.script.specs.Written.{IsAbove, WritesValue, WritesMember};
 
+use json::Writer;
 use machine::{HitNumbers, Sequence, Span, Text};
 use points::Point;
-use serde_json::{Map, Value, put};
-use std::alloc::{AllocError, Global};
+use std::alloc::AllocError;
 
-// What has a JSON value.
+// What has a JSON value, which can be written.
 pub(crate) trait HasValue {
     // The JSON value.
     ghost json: { Self → Data };
 
-    fn value(&self, alloc: Global) -> Result<Value, AllocError>
-        ensures { IfOk result (λ v. view v ≡ json self.now) };
-}
-
-// The values of the members, in order.
-fn list_items<T: HasValue>(alloc: Global, members: &[T]) -> Result<Vec<Value>, AllocError>
-    ensures { IfOk result (λ vs. items_view vs.items ≡ items_of (map T.HasValue.json members.now)) }
-{
-    let mut items = Vec::new(alloc);
-    for member in members {
-        let value = member.value(alloc)?;
-        items.push(value)?;
-    }
-    Ok(items)
+    fn write(&self, out: &mut Writer) -> Result<(), AllocError>
+        ensures { OnOk result (WritesValue out.old out.new (json self.now)) };
 }
 
 // A list, with the value of each member.
-pub(crate) fn list_value<T: HasValue>(alloc: Global, members: &[T]) -> Result<Value, AllocError>
-    ensures { IfOk result (λ v. view v ≡ list_value T.HasValue.json members.now) }
+pub(crate) fn write_list<T: HasValue>(members: &[T], out: &mut Writer) -> Result<(), AllocError>
+    ensures { OnOk result (WritesValue out.old out.new (list_value T.HasValue.json members.now)) }
 {
-    let items = list_items(alloc, members)?;
-    Ok(Value::Array(items))
+    out.begin_array()?;
+    for member in members {
+        member.write(out)?;
+    }
+    out.end_array()
 }
 
-// The members of an object and one more, handed on so that a caller has nothing to drop where memory runs out.
-pub(crate) fn with<T: HasValue>(
-    mut members: Map<String, Value>,
-    alloc: Global,
+// One member of an object.
+pub(crate) fn write_member<T: HasValue>(
     key: &str,
     of: &T,
-) -> Result<Map<String, Value>, AllocError>
-    ensures { IfOk result (λ ms. members_view ms.entries
-        ≡ with_member key.now (T.HasValue.json of.now) (members_view members.entries)) }
+    out: &mut Writer,
+) -> Result<(), AllocError>
+    ensures { OnOk result (WritesMember out.old out.new key.now (T.HasValue.json of.now)) }
 {
-    let value = of.value(alloc)?;
-    put(&mut members, alloc, key, value)?;
-    Ok(members)
+    out.key(key)?;
+    of.write(out)
 }
 
 // An object of one member.
-pub(crate) fn one<T: HasValue>(alloc: Global, key: &str, of: &T) -> Result<Value, AllocError>
-    ensures { IfOk result (λ v. view v ≡ object (member key.now (T.HasValue.json of.now) no_members)) }
+pub(crate) fn write_one<T: HasValue>(key: &str, of: &T, out: &mut Writer) -> Result<(), AllocError>
+    ensures { OnOk result (WritesValue out.old out.new
+        (object (member key.now (T.HasValue.json of.now) no_members))) }
 {
-    let members = with(Map::new(alloc), alloc, key, of)?;
-    Ok(Value::Object(members))
+    out.begin_object()?;
+    write_member(key, of, out)?;
+    out.end_object()
 }
 
-// An object of two members.
-pub(crate) fn two<A: HasValue, B: HasValue>(
-    alloc: Global,
+// An object of two members, in the order of their keys.
+pub(crate) fn write_two<A: HasValue, B: HasValue>(
     key: &str,
     a: &A,
     other: &str,
     b: &B,
-) -> Result<Value, AllocError>
-    ensures { IfOk result (λ v. view v ≡ object (with_member other.now (B.HasValue.json b.now)
-        (member key.now (A.HasValue.json a.now) no_members))) }
+    out: &mut Writer,
+) -> Result<(), AllocError>
+    requires { IsAbove key.now other.now }
+    ensures { OnOk result (WritesValue out.old out.new (object (member key.now (A.HasValue.json a.now)
+        (member other.now (B.HasValue.json b.now) no_members)))) }
 {
-    let members = with(Map::new(alloc), alloc, key, a)?;
-    let members = with(members, alloc, other, b)?;
-    Ok(Value::Object(members))
+    out.begin_object()?;
+    write_member(key, a, out)?;
+    write_member(other, b, out)?;
+    out.end_object()
 }
 
 impl HasValue for u32 {
     ghost json = { whole };
 
-    fn value(&self, _alloc: Global) -> Result<Value, AllocError> {
-        Ok(Value::from(*self))
+    fn write(&self, out: &mut Writer) -> Result<(), AllocError> {
+        out.u64(*self as u64)
     }
 }
 
 impl HasValue for u64 {
     ghost json = { whole };
 
-    fn value(&self, _alloc: Global) -> Result<Value, AllocError> {
-        Ok(Value::from(*self))
+    fn write(&self, out: &mut Writer) -> Result<(), AllocError> {
+        out.u64(*self)
     }
 }
 
 impl HasValue for bool {
     ghost json = { boolean };
 
-    fn value(&self, _alloc: Global) -> Result<Value, AllocError> {
-        Ok(Value::from(*self))
+    fn write(&self, out: &mut Writer) -> Result<(), AllocError> {
+        out.boolean(*self)
     }
 }
 
 impl HasValue for Text {
     ghost json = { string };
 
-    fn value(&self, alloc: Global) -> Result<Value, AllocError> {
-        Value::try_from_str(alloc, self.as_str())
+    fn write(&self, out: &mut Writer) -> Result<(), AllocError> {
+        out.string(self.as_str())
     }
 }
 
 impl HasValue for Point {
     ghost json = { point_value };
 
-    fn value(&self, alloc: Global) -> Result<Value, AllocError> {
-        list_value(alloc, &[self.row, self.column])
+    fn write(&self, out: &mut Writer) -> Result<(), AllocError> {
+        write_list(&[self.row, self.column], out)
     }
 }
 
 impl HasValue for Span {
     ghost json = { span_value };
 
-    fn value(&self, alloc: Global) -> Result<Value, AllocError> {
-        list_value(
-            alloc,
+    fn write(&self, out: &mut Writer) -> Result<(), AllocError> {
+        write_list(
             &[
                 self.start.row,
                 self.start.column,
                 self.end.row,
                 self.end.column,
             ],
+            out,
         )
     }
 }
@@ -136,18 +128,15 @@ impl HasValue for Span {
 impl HasValue for HitNumbers {
     ghost json = { hits_value };
 
-    fn value(&self, alloc: Global) -> Result<Value, AllocError> {
-        list_value(
-            alloc,
-            &[self.touch, self.inside, self.overlap, self.surround],
-        )
+    fn write(&self, out: &mut Writer) -> Result<(), AllocError> {
+        write_list(&[self.touch, self.inside, self.overlap, self.surround], out)
     }
 }
 
 impl<T: HasValue> HasValue for Sequence<T> {
     ghost json = { list_value T.HasValue.json };
 
-    fn value(&self, alloc: Global) -> Result<Value, AllocError> {
-        list_value(alloc, self.as_slice())
+    fn write(&self, out: &mut Writer) -> Result<(), AllocError> {
+        write_list(self.as_slice(), out)
     }
 }

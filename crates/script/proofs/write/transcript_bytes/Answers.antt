@@ -1,12 +1,17 @@
-use Rattle.serde_json.specs.View.{view}
+use Rattle.std.proofs.Common.{rules}
 use Rattle.script.proofs.ReadBack.{transcript_reads_back}
-use Rattle.script.proofs.Whole.{text_of_value}
+use Rattle.script.proofs.Whole.{text_of_tokens}
 use Rattle.script.proofs.write.transcript_bytes.Goals as goal
 
 pub returns-clause-text : goal.returns-clause-text
-returns-clause-text c = text_of_value c.args.transcript.now (view c.in_ok-value.value) c.in_ok-bytes.bytes.items c.push.new.self.items c.in_ok-value.ensures c.in_ok-bytes.ensures.text c.in_ok-push.ensures.items
+returns-clause-text c =
+    let start = c.new-out.ensures in
+    text_of_tokens c.args.transcript.now c.new-out.result c.write_transcript.new.out c.into_inner-bytes.result.items c.push.new.self.items (search rules) start.tokens
+    c.in_ok-write_transcript.ensures c.into_inner-bytes.ensures.items c.in_ok-push.ensures.items
 
 pub returns-clause-reads_back : goal.returns-clause-reads_back
 returns-clause-reads_back c =
-    let bytes = c.in_ok-bytes.ensures in
-    transcript_reads_back c.args.transcript.now (view c.in_ok-value.value) c.in_ok-bytes.bytes.items c.push.new.self.items c.in_ok-value.ensures bytes.utf8 bytes.compact bytes.order bytes.reads_back c.in_ok-push.ensures.items
+    let start = c.new-out.ensures in
+    let text = c.into_inner-bytes.ensures in
+    transcript_reads_back c.args.transcript.now c.new-out.result c.write_transcript.new.out c.into_inner-bytes.result.items c.push.new.self.items (search rules) start.tokens
+    c.in_ok-write_transcript.ensures text.items text.reads_back text.utf8 c.in_ok-push.ensures.items

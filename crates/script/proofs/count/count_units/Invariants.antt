@@ -2,7 +2,7 @@ use Rattle.std.proofs.Common.{◌≡◌, ◌+◌, length}
 use Rattle.std.specs.Str.{IsUtf8}
 use Rattle.std.specs.Str.Iter.{chars_rest}
 use Rattle.points.specs.Text.{utf16_of}
-use Rattle.script.proofs.count.units_of.Given as goal
+use Rattle.script.proofs.count.count_units.Given as goal
 
 abbrev pub invariant-loop-c : goal.invariant-loop-c
 invariant-loop-c l = record {
