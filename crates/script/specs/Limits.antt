@@ -16,9 +16,9 @@ use Rattle.machine.specs.Plain.{live_after, are_live}
 -- ---- what is built
 
 -- a read whose word is built
-abbrev pub is_built_read : Read → Bool
-is_built_read (read.Save name encoding) = false
-is_built_read r = true
+abbrev pub has_built_read : Read → Bool
+has_built_read (read.Save name encoding) = false
+has_built_read r = true
 
 -- a command whose word is built, and those of its reads
 abbrev pub has_built_word : Command → Bool
@@ -36,7 +36,7 @@ has_built_word (command.Marks how range) = true
 has_built_word (command.Watch id) = true
 has_built_word (command.Unwatch id) = true
 has_built_word (command.Take snapshot) = true
-has_built_word (command.Read snapshot reads) = list_all is_built_read reads
+has_built_word (command.Read snapshot reads) = list_all has_built_read reads
 has_built_word (command.Release snapshot) = true
 has_built_word c = false
 
@@ -94,10 +94,6 @@ abbrev pub is_watch : Command → Bool
 is_watch (command.Watch id) = true
 is_watch c = false
 
--- the commands of a session, their readings, its finds of marks and its watchers are within their limits
-abbrev pub is_bounded : List Command → Bool
-is_bounded cs = nat_le (length cs) MAX_COMMANDS && nat_le (sum_by readings_of cs) MAX_READINGS && nat_le (count_by is_find cs) MAX_FINDS && nat_le (count_by is_watch cs) MAX_WATCHES
-
 -- ---- snapshots
 
 -- With these numbers live: a `take` makes another number live and finds a hand, and a number that is read, sent or released is live.
@@ -131,7 +127,10 @@ pub record IsWithinLimits (s : Script) : Type 0 where
   pub version : s.version ≡ 1
   pub one : length s.sessions ≡ 1
   pub opening : IsSomeAnd (opening_text s.opening) (λ units. length units ≤ MAX_UNITS)
-  pub commands : AllByRecursion (λ cs. is_bounded cs ≡ true) s.sessions
+  pub commands : AllByRecursion (λ cs. length cs ≤ MAX_COMMANDS) s.sessions
+  pub readings : AllByRecursion (λ cs. sum_by readings_of cs ≤ MAX_READINGS) s.sessions
+  pub finds : AllByRecursion (λ cs. count_by is_find cs ≤ MAX_FINDS) s.sessions
+  pub watches : AllByRecursion (λ cs. count_by is_watch cs ≤ MAX_WATCHES) s.sessions
   pub built : AllByRecursion (λ cs. AllByRecursion (λ c. has_built_word c ≡ true) cs) s.sessions
   pub numbers : AllByRecursion (λ cs. AllByRecursion IsReadable cs) s.sessions
   pub needles : AllByRecursion (λ cs. AllByRecursion (λ c. has_needles c ≡ true) cs) s.sessions
