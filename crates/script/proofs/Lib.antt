@@ -13,7 +13,6 @@ pub mod ReadShape
 pub mod CommandTests
 pub mod DocumentPlaces
 pub mod CommandLoop
-pub mod ReadLoop
 pub mod Documents
 pub mod Apart
 pub mod Whole

@@ -17,7 +17,7 @@ use Rattle.script.specs.Parts.{member_count, items_in, string_in, whole_of, rang
 use Rattle.script.specs.Rows as kind
 use Rattle.script.specs.Rows.{Kind, Field, how_words}
 use Rattle.script.specs.Rules.{command_breaks, read_breaks, fields_break, any_field_breaks, field_breaks, with_reads, wrong_kind, wrong_number, wrong_encoding, empty_needle, wrong_name, any_item, save_name, names_in, reads_in, is_misshapen, is_unbuilt_read, built_words, built_reads, is_one_of}
-use Rattle.script.specs.ScriptDocument.{edit_of, look_of, ranged_of, bare_of, unmark_of, mark_range_of, exclusive_of, compare_of, mark_of, how_of, marks_of, watch_of, unwatch_of, on_marks_of, size_of, look_read_of, find_of, pattern_of, read_of, reads_of, take_of, listed_reads, read_command_of, release_of, on_snapshots_of, on_text_of, command_of}
+use Rattle.script.specs.ScriptDocument.{edit_of, look_of, ranged_of, bare_of, unmark_of, mark_range_of, exclusive_of, compare_of, mark_of, how_of, marks_of, watch_of, unwatch_of, on_marks_of, size_of, look_read_of, find_of, pattern_of, read_of, reads_of, take_of, read_command_of, release_of, on_snapshots_of, on_text_of, command_of}
 use Rattle.script.proofs.RuleLemmas.{or_false, there, no_empty}
 use Rattle.script.proofs.ScriptExact.{word_exact}
 use Rattle.serde_json.specs.Data.{Data, Items, no_items, item}

@@ -1,5 +1,5 @@
 -- The limits within which a script is read.
-use Rattle.std.specs.Prelude.{◌≡◌, ◌≤◌, ◌==◌, ◌&&◌, not, ℕ, nat_le, nat_lt, List, [], ◌∷◌, length, count_by, sum_by, Bool, true, false, Option, Some, None, IsSomeAnd}
+use Rattle.std.specs.Prelude.{◌≡◌, ◌≤◌, ◌==◌, ◌&&◌, not, ℕ, nat_lt, List, [], ◌∷◌, length, count_by, sum_by, Bool, true, false, IsSomeAnd}
 use Rattle.std.specs.List.{AllByRecursion, list_all, list_any}
 use Rattle.points.specs.declared.limits.TheConstants.{MAX_UNITS, MAX_COORD, MAX_HANDS}
 use Rattle.points.specs.declared.range.Range.{Range}
