@@ -116,9 +116,7 @@ place_more d h =
 read_is_built : (r : Read) → has_built_read r ≡ true → is_unbuilt_read (read_value r) ≡ false
 read_is_built read.Size h = refl
 read_is_built (read.Text range limit) h = refl
-read_is_built (read.Find needle limit) h = refl
-read_is_built (read.Pattern pattern limit) h = refl
-read_is_built (read.Save name encoding) h = absurd (false≢true h)
+read_is_built r h = absurd (false≢true h)
 
 reads_are_built : (rs : List Read) → list_all has_built_read rs ≡ true → any_item is_unbuilt_read (items_of (map read_value rs)) ≡ false
 reads_are_built [] h = refl
@@ -207,9 +205,7 @@ range_first r rest e = let parts = or_false (not (is_some (range_of (range_value
 read_readable : (r : Read) → has_built_read r ≡ true → read_breaks wrong_number false (read_value r) ≡ false → IsReadableRead r
 read_readable read.Size built e = tt
 read_readable (read.Text range limit) built e = let first = range_first range _ e in (first.0, (whole_first MAX_SHOWN limit false first.1).0)
-read_readable (read.Find needle limit) built e = (whole_first MAX_HITS limit false e).0
-read_readable (read.Pattern pattern limit) built e = (whole_first MAX_HITS limit false e).0
-read_readable (read.Save name encoding) built e = absurd (false≢true built)
+read_readable r built e = absurd (false≢true built)
 
 reads_readable : (rs : List Read) → list_all has_built_read rs ≡ true → any_item (read_breaks wrong_number false) (items_of (map read_value rs)) ≡ false → AllByRecursion IsReadableRead rs
 reads_readable [] built e = tt
@@ -239,12 +235,8 @@ readable (command.Read k reads) built e =
 readable (command.Release k) built e = (whole_first MAX_ID k false e).0
 readable c built e = absurd (false≢true built)
 
-pub no_empty : (b : ℕ) (s : List ℕ) → (length (b ∷ s) == 0) ≡ false
-no_empty b s = grind (arith, nat_tests)
-
 needle_there : (r : Read) → has_built_read r ≡ true → read_breaks empty_needle false (read_value r) ≡ false → has_needle r ≡ true
-needle_there (read.Find [] limit) built e = absurd (false≢true (sym e))
-needle_there (read.Find (b ∷ needle) limit) built e = rw (no_empty b needle) refl
+needle_there (read.Find needle limit) built e = absurd (false≢true built)
 needle_there r built e = refl
 
 needles_there : (rs : List Read) → list_all has_built_read rs ≡ true → any_item (read_breaks empty_needle false) (items_of (map read_value rs)) ≡ false → list_all has_needle rs ≡ true
