@@ -1,8 +1,9 @@
 //! Scripts and transcripts as documents: which bytes are a script, and what a transcript's text is.
 use points::{MarkOrder, NoMemory, Point};
 use script::{
-    CallRefusal, Command, HitNumbers, How, Opening, Read, ReadAnswer, Reply, ReplyPart, ScriptRefusal,
-    ScriptRule, Sequence, Span, Text, Transcript, TranscriptEnd, read_script, transcript_bytes,
+    CallRefusal, Command, HitNumbers, How, Opening, Read, ReadAnswer, Reply, ReplyPart,
+    ScriptRefusal, ScriptRule, Sequence, Span, Text, Transcript, TranscriptEnd, read_script,
+    transcript_bytes,
 };
 use std::alloc::{AllocError, Global};
 use std::test::Fail;
@@ -440,7 +441,11 @@ fn counts_the_snapshots_that_are_live(rt: HostRuntime) {
         (32, "{\"do\":\"take\",\"snapshot\":32}", "1 33 TooMany"),
         (32, "{\"do\":\"take\",\"snapshot\":0}", "1 33 TooMany"),
         (32, "{\"do\":\"take\",\"snapshot\":-1}", "1 33 TooMany"),
-        (32, "{\"do\":\"release\",\"snapshot\":0},{\"do\":\"take\",\"snapshot\":0}", "read"),
+        (
+            32,
+            "{\"do\":\"release\",\"snapshot\":0},{\"do\":\"take\",\"snapshot\":0}",
+            "read",
+        ),
     ];
     for (count, last, wanted) in rows {
         assert!(rt; takes_end(rt.alloc(), count, last, wanted), "{wanted}");

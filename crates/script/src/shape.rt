@@ -4,11 +4,11 @@ ghost use Rattle.std.specs.Prelude.{◌≡◌, ◌==◌, ◌&&◌, ◌||◌, not
 ghost use Rattle.serde_json.specs.Find.{get};
 ghost use Rattle.serde_json.specs.View.{view, items_view};
 ghost use Rattle.script.specs.declared.limits.TheConstants.{MAX_SHOWN, MAX_HITS, MAX_ID};
-ghost use Rattle.script.specs.Parts.{count_items, member_count, string_in};
+ghost use Rattle.script.specs.Parts.{count_items, string_in};
 ghost use Rattle.script.specs.Rows as kind;
 ghost use Rattle.script.specs.Rules.{field_breaks, with_reads, read_breaks, wrong_kind, is_misshapen, is_unbuilt_read, is_number, any_item, is_one_of};
 ghost use Rattle.script.specs.Rows.{how_words};
-ghost use Rattle.script.specs.Reading.{reads_break};
+ghost use Rattle.script.specs.Reading.{reads_break, read_members_break};
 
 use crate::parts::member_count;
 use serde_json::Value;
@@ -168,7 +168,7 @@ fn lacks_reads(value: &Value) -> bool
 
 // Whether the members of a command that reads a snapshot are broken, or one of its reads isn't built.
 fn lacks_members_of_read(value: &Value) -> bool
-    ensures { result ≡ (not (member_count (view value.now) == 3) || (field_breaks wrong_kind true (kind.whole MAX_ID) (get (codes "snapshot") (view value.now)) || reads_break (get (codes "reads") (view value.now)))) }
+    ensures { result ≡ read_members_break (view value.now) }
 {
     member_count(value) != 3 || lacks_id(value, "snapshot") || lacks_reads(value)
 }
