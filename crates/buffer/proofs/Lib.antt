@@ -6,3 +6,4 @@ pub mod UndoLemmas
 pub mod SoundLemmas
 pub mod MarkCalls
 pub mod WatchCalls
+pub mod SnapshotLemmas

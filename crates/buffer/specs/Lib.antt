@@ -1,3 +1,5 @@
 pub mod Seen
 pub mod Sound
 pub mod Played
+pub mod Reads
+pub mod Live

@@ -3,6 +3,8 @@ use Rattle.std.specs.Prelude.{◌+◌}
 use Rattle.machine.specs.declared.reply.Reply.{Reply}
 use Rattle.machine.specs.Machine.{State, Call, step}
 use Rattle.machine.specs.Answers.{reply_of}
+use Rattle.watch.specs.declared.seat.Seat.{Seat}
+use Rattle.watch.specs.Seats.{Stands}
 use Rattle.followers.specs.Following.{steps_of, watchings}
 use Rattle.buffer.specs.declared.buffer.Buffer.{Buffer}
 
@@ -21,3 +23,7 @@ module _ {X : Type 0} {D : X → Type 0} where
     count = b.count;
     version = b.version;
   }
+
+  -- K holds of each seat of the buffer's watchers, and the table of seats is as calls leave it
+  abbrev pub Hears : (Seat X D → Type 0) → Buffer X D → Type 0
+  Hears K b = Stands K b.followers.watchers.told b.followers.watchers.seats.items

@@ -1,8 +1,7 @@
 ghost use Rattle.std.specs.Prelude.{◌≡◌, ◌+◌, ◌<◌, ◌≤◌, length, IfOk};
 ghost use Rattle.points.specs.Text.{utf16_of, text_of};
 ghost use Rattle.machine.specs.Machine.{opened, counted};
-ghost use Rattle.watch.specs.Seats.{Stands};
-ghost use Rattle.buffer.specs.Seen.{state_of};
+ghost use Rattle.buffer.specs.Seen.{Hears, state_of};
 ghost use Rattle.buffer.specs.Sound.{IsSound};
 
 use crate::layered_text::LayeredText;
@@ -34,7 +33,7 @@ impl Buffer {
         ensures state { IfOk result (λ b. state_of b ≡ opened (utf16_of text.now)) }
         ensures sound { IfOk result (λ b. IsSound (state_of b)) }
         ensures told { IfOk result (λ b. b.followers.watchers.told ≡ 0) }
-        ensures stands { IfOk result (λ b. Stands (λ s. ⟦<Seat as Listens>⟧.kept s) b.followers.watchers.told b.followers.watchers.seats.items) }
+        ensures stands { IfOk result (λ b. Hears (λ s. ⟦<Seat as Listens>⟧.kept s) b) }
     {
         let text = match LineText::from_str(alloc, text) {
             Ok(text) => text,

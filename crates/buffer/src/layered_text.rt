@@ -8,13 +8,13 @@ ghost use Rattle.places.specs.Placed.{free_of, top_id};
 ghost use Rattle.chains.specs.Layered.{whole_text};
 ghost use Rattle.layers.specs.Shelf.{top_layers, top_text};
 
-use layers::{NewLayer, Shelf, places_are_sound};
+use layers::{NewLayer, Reader, Shelf, places_are_sound};
 use line_text::{LineText, TextRefusal};
 use points::{MAX_UNITS, NoMemory, Point, Range, Units};
 use std::alloc::Global;
 use std::marker::Model;
 
-/// A text in layers on a shelf, of which nobody holds an older state. Contracts see its units.
+/// A text in layers on a shelf. Hands hold on to older states, which readers show. Contracts see its units.
 #[derive(Drop)]
 pub struct LayeredText {
     alloc: Global,
@@ -114,6 +114,30 @@ impl LayeredText {
         let layer = changed(&self.shelf, from, to, new)?;
         put_on_top(&mut self.shelf, layer);
         Ok(())
+    }
+
+    /// A reader of the text as it is, which shares its layers.
+    pub fn reader(&self) -> Result<Reader, NoMemory>
+        ensures { IfOk result (λ reader. reader.text ≡ self.now) }
+    {
+        places_are_sound(&self.shelf);
+        self.shelf.reader(self.shelf.top())
+    }
+
+    /// A hand holds on to the newest layer.
+    pub fn hold(&mut self, hand: u32)
+        requires { hand < 32 }
+        ensures { self.new ≡ self.old }
+    {
+        places_are_sound(&self.shelf);
+        self.shelf.note(self.shelf.top(), 1 << hand);
+    }
+
+    /// A hand lets go of all layers but the newest. What nobody needs then is freed by the next change.
+    pub fn let_go(&mut self, hand: u32)
+        ensures { self.new ≡ self.old }
+    {
+        self.shelf.quiet(hand);
     }
 
     /// Puts all layers above the base together, where there is more than one. The text stays.

@@ -9,9 +9,13 @@ mod change;
 mod layered_text;
 mod marks;
 mod play;
+mod snapshot;
+mod snapshots;
 mod text;
 mod undo;
 mod watch_calls;
 
 pub use buffer::Buffer;
 pub use layered_text::LayeredText;
+pub use snapshot::Snapshot;
+pub use snapshots::Snapshots;

@@ -1,8 +1,7 @@
 //! A command played as a call.
-ghost use Rattle.std.specs.Prelude.{◌≡◌, ◌<◌, ◌≤◌, true, IfOk};
-ghost use Rattle.watch.specs.Seats.{Stands};
+ghost use Rattle.std.specs.Prelude.{◌≡◌, ◌<◌, ◌≤◌, true, IfOk, OnErr};
 ghost use Rattle.buffer.specs.Played.{is_on_marks, is_played, played};
-ghost use Rattle.buffer.specs.Seen.{state_of};
+ghost use Rattle.buffer.specs.Seen.{Hears, state_of};
 ghost use Rattle.buffer.specs.Sound.{IsSound};
 
 use crate::buffer::Buffer;
@@ -19,11 +18,12 @@ impl Buffer {
         requires count { self.old.count < LAST }
         requires sound { IsSound (state_of self.old) }
         requires told { self.old.followers.watchers.told ≤ self.old.count }
-        requires stands { Stands (λ s. ⟦<Seat as Listens>⟧.kept s) self.old.followers.watchers.told self.old.followers.watchers.seats.items }
+        requires stands { Hears (λ s. ⟦<Seat as Listens>⟧.kept s) self.old }
         ensures ok { IfOk result (λ reply. (state_of self.new, reply) ≡ played (state_of self.old) command.now) }
+        ensures err { OnErr result (state_of self.new ≡ state_of self.old) }
         ensures sound { IsSound (state_of self.new) }
         ensures told { self.new.followers.watchers.told ≤ self.new.count }
-        ensures stands { Stands (λ s. ⟦<Seat as Listens>⟧.kept s) self.new.followers.watchers.told self.new.followers.watchers.seats.items }
+        ensures stands { Hears (λ s. ⟦<Seat as Listens>⟧.kept s) self.new }
     {
         match command {
             Command::Edit { range, text } => self.edit(alloc, *range, text.as_str()),
@@ -40,6 +40,7 @@ impl Buffer {
         requires count { self.old.count < LAST }
         requires sound { IsSound (state_of self.old) }
         ensures ok { IfOk result (λ reply. (state_of self.new, reply) ≡ played (state_of self.old) command.now) }
+        ensures err { OnErr result (state_of self.new ≡ state_of self.old) }
         ensures sound { IsSound (state_of self.new) }
         ensures watchers { self.new.followers.watchers ≡ self.old.followers.watchers }
         ensures count { self.old.count ≤ self.new.count }

@@ -4,8 +4,7 @@ ghost use Rattle.points.specs.Text.{utf16_of};
 ghost use Rattle.points.specs.Place.{point_at};
 ghost use Rattle.machine.specs.Machine.{edit, look, shown, counted, with_step, changed, change_of, part_of, no_hits};
 ghost use Rattle.machine.specs.Answers.{edited_reply};
-ghost use Rattle.watch.specs.Seats.{Stands};
-ghost use Rattle.buffer.specs.Seen.{answered, state_of};
+ghost use Rattle.buffer.specs.Seen.{Hears, answered, state_of};
 ghost use Rattle.buffer.specs.Sound.{IsSound};
 
 use crate::buffer::Buffer;
@@ -22,11 +21,11 @@ impl Buffer {
         requires count { self.old.count < LAST }
         requires sound { IsSound (state_of self.old) }
         requires told { self.old.followers.watchers.told ≤ self.old.count }
-        requires stands { Stands (λ s. ⟦<Seat as Listens>⟧.kept s) self.old.followers.watchers.told self.old.followers.watchers.seats.items }
+        requires stands { Hears (λ s. ⟦<Seat as Listens>⟧.kept s) self.old }
         ensures ok { IfOk result (λ reply. (state_of self.new, reply) ≡ answered (state_of self.old) (edit (range, utf16_of text.now))) }
         ensures err { OnErr result (state_of self.new ≡ state_of self.old) }
         ensures told { self.new.followers.watchers.told ≤ self.new.count }
-        ensures stands { Stands (λ s. ⟦<Seat as Listens>⟧.kept s) self.new.followers.watchers.told self.new.followers.watchers.seats.items }
+        ensures stands { Hears (λ s. ⟦<Seat as Listens>⟧.kept s) self.new }
     {
         let (from, to) = self.text.span(range);
         let new_text = Units::from_str(alloc, text)?;
@@ -89,13 +88,13 @@ impl Buffer {
         requires fits { length self.old.text + length new_text ≤ MAX_UNITS + (to - from) }
         requires sound { IsSound (state_of self.old) }
         requires told { self.old.followers.watchers.told ≤ self.old.count }
-        requires stands { Stands (λ s. ⟦<Seat as Listens>⟧.kept s) self.old.followers.watchers.told self.old.followers.watchers.seats.items }
+        requires stands { Hears (λ s. ⟦<Seat as Listens>⟧.kept s) self.old }
         ensures state { OnOk result (state_of self.new ≡ counted (with_step (change_of (state_of self.old) from to new_text ∷ [])
             (changed (state_of self.old) from to new_text))) }
         ensures reply { IfOk result (λ reply. reply ≡ edited_reply (self.old.count + 1) (part_of (state_of self.old) from to new_text)) }
         ensures err { OnErr result (state_of self.new ≡ state_of self.old) }
         ensures told { self.new.followers.watchers.told ≤ self.new.count }
-        ensures stands { Stands (λ s. ⟦<Seat as Listens>⟧.kept s) self.new.followers.watchers.told self.new.followers.watchers.seats.items }
+        ensures stands { Hears (λ s. ⟦<Seat as Listens>⟧.kept s) self.new }
     {
         let old_text = self.text.units(from, to)?;
         let change = change(&mut self.text, from, to, old_text, new_text)?;
@@ -132,8 +131,8 @@ fn read_end(from: usize, to: usize, limit: usize) -> usize
     from + (to - from).min(limit + 1)
 }
 
-// The first units, at most `limit`, and one fewer where that would part a surrogate pair.
-fn shown(units: &[u16], limit: usize) -> &[u16]
+/// The first units, at most `limit`, and one fewer where that would part a surrogate pair.
+pub(crate) fn shown(units: &[u16], limit: usize) -> &[u16]
     ensures { result.now ≡ shown limit units.now }
 {
     let end = limit.min(units.len());

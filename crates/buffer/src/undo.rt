@@ -4,9 +4,8 @@ ghost use Rattle.points.specs.Text.{replaced};
 ghost use Rattle.points.specs.Place.{offset_of};
 ghost use Rattle.machine.specs.Machine.{undo, redo, counted, splice_at, changed, part_of};
 ghost use Rattle.machine.specs.Answers.{edited_reply};
-ghost use Rattle.watch.specs.Seats.{Stands};
 ghost use Rattle.followers.specs.Following.{splice_by};
-ghost use Rattle.buffer.specs.Seen.{answered, state_of};
+ghost use Rattle.buffer.specs.Seen.{Hears, answered, state_of};
 ghost use Rattle.buffer.specs.Sound.{IsSound, Leads};
 
 use crate::buffer::Buffer;
@@ -24,11 +23,11 @@ impl Buffer {
         requires count { self.old.count < LAST }
         requires sound { IsSound (state_of self.old) }
         requires told { self.old.followers.watchers.told ≤ self.old.count }
-        requires stands { Stands (λ s. ⟦<Seat as Listens>⟧.kept s) self.old.followers.watchers.told self.old.followers.watchers.seats.items }
+        requires stands { Hears (λ s. ⟦<Seat as Listens>⟧.kept s) self.old }
         ensures ok { IfOk result (λ reply. (state_of self.new, reply) ≡ answered (state_of self.old) undo) }
         ensures err { OnErr result (state_of self.new ≡ state_of self.old) }
         ensures told { self.new.followers.watchers.told ≤ self.new.count }
-        ensures stands { Stands (λ s. ⟦<Seat as Listens>⟧.kept s) self.new.followers.watchers.told self.new.followers.watchers.seats.items }
+        ensures stands { Hears (λ s. ⟦<Seat as Listens>⟧.kept s) self.new }
     {
         let back = match self.followers.to_undo()? {
             Some(back) => back,
@@ -45,11 +44,11 @@ impl Buffer {
         requires count { self.old.count < LAST }
         requires sound { IsSound (state_of self.old) }
         requires told { self.old.followers.watchers.told ≤ self.old.count }
-        requires stands { Stands (λ s. ⟦<Seat as Listens>⟧.kept s) self.old.followers.watchers.told self.old.followers.watchers.seats.items }
+        requires stands { Hears (λ s. ⟦<Seat as Listens>⟧.kept s) self.old }
         ensures ok { IfOk result (λ reply. (state_of self.new, reply) ≡ answered (state_of self.old) redo) }
         ensures err { OnErr result (state_of self.new ≡ state_of self.old) }
         ensures told { self.new.followers.watchers.told ≤ self.new.count }
-        ensures stands { Stands (λ s. ⟦<Seat as Listens>⟧.kept s) self.new.followers.watchers.told self.new.followers.watchers.seats.items }
+        ensures stands { Hears (λ s. ⟦<Seat as Listens>⟧.kept s) self.new }
     {
         let on = match self.followers.to_redo()? {
             Some(on) => on,

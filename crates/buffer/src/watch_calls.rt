@@ -1,8 +1,7 @@
 //! Watchers attached and taken off.
 ghost use Rattle.std.specs.Prelude.{◌≡◌, ◌<◌, ◌≤◌, ◌^◌};
 ghost use Rattle.machine.specs.Machine.{watch, unwatch};
-ghost use Rattle.watch.specs.Seats.{Stands};
-ghost use Rattle.buffer.specs.Seen.{answered, state_of};
+ghost use Rattle.buffer.specs.Seen.{Hears, answered, state_of};
 
 use crate::buffer::Buffer;
 use machine::{CallRefusal, Reply};
@@ -15,10 +14,10 @@ impl Buffer {
         requires count { self.old.count < LAST }
         requires few { count_of watcher ≤ 2 ^ 63 }
         requires told { self.old.followers.watchers.told ≤ self.old.count }
-        requires stands { Stands (λ s. ⟦<Seat as Listens>⟧.kept s) self.old.followers.watchers.told self.old.followers.watchers.seats.items }
+        requires stands { Hears (λ s. ⟦<Seat as Listens>⟧.kept s) self.old }
         ensures ok { (state_of self.new, result.0) ≡ answered (state_of self.old) (watch id) }
         ensures told { self.new.followers.watchers.told ≤ self.new.count }
-        ensures stands { Stands (λ s. ⟦<Seat as Listens>⟧.kept s) self.new.followers.watchers.told self.new.followers.watchers.seats.items }
+        ensures stands { Hears (λ s. ⟦<Seat as Listens>⟧.kept s) self.new }
     {
         match self.followers.watchers.attach(id, watcher) {
             Ok(()) => (self.done(), None),
@@ -35,10 +34,10 @@ impl Buffer {
     pub fn unwatch(&mut self, id: u32) -> (Reply, Option<Box<dyn Watcher>>)
         requires count { self.old.count < LAST }
         requires told { self.old.followers.watchers.told ≤ self.old.count }
-        requires stands { Stands (λ s. ⟦<Seat as Listens>⟧.kept s) self.old.followers.watchers.told self.old.followers.watchers.seats.items }
+        requires stands { Hears (λ s. ⟦<Seat as Listens>⟧.kept s) self.old }
         ensures ok { (state_of self.new, result.0) ≡ answered (state_of self.old) (unwatch id) }
         ensures told { self.new.followers.watchers.told ≤ self.new.count }
-        ensures stands { Stands (λ s. ⟦<Seat as Listens>⟧.kept s) self.new.followers.watchers.told self.new.followers.watchers.seats.items }
+        ensures stands { Hears (λ s. ⟦<Seat as Listens>⟧.kept s) self.new }
     {
         match self.followers.watchers.detach(id) {
             Ok((watcher, heard)) => {

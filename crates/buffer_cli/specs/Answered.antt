@@ -1,11 +1,40 @@
 -- What the buffer answers to a command: as the plain machine does.
-use Rattle.std.specs.Prelude.{[]}
+use Rattle.std.specs.Prelude.{[], ◌∷◌, ℕ, List, Bool, true, false, find, is_some, count_by}
+use Rattle.std.specs.List.{list_all}
 use Rattle.machine.specs.declared.command.Command.{Command}
+use Rattle.machine.specs.declared.command.Command.TheVariants as command
 use Rattle.machine.specs.declared.reply.Reply.{Reply}
 use Rattle.machine.specs.Machine.{State}
 use Rattle.machine.specs.Answers.{call_of}
-use Rattle.machine.specs.Plain.{after_call, plain_reply}
+use Rattle.machine.specs.Plain.{Kept, after_call, plain_reply}
+use Rattle.buffer.specs.Reads.{is_own_read, has_number, without_first}
 
--- the state after a command, and the reply to it in a transcript of version 1
-abbrev pub answered : State → Command → State × Reply
-answered s c = (after_call s (call_of c), plain_reply 1 s [] [] c)
+-- the state after a command, and the reply to it in a transcript of version 1, with these snapshots
+abbrev pub answered : State → List Kept → Command → State × Reply
+answered s held c = (after_call s (call_of c), plain_reply 1 s held [] c)
+
+-- the live snapshots after a command
+abbrev pub held_after : State → Command → List Kept → List Kept
+held_after s (command.Take k) held = record { number = k; text = s.text } ∷ held
+held_after s (command.Release k) held = without_first k held
+held_after s _ held = held
+
+-- the commands that a session answers by itself: all but a batch and a task for the workers, and a read of what the text alone tells
+abbrev pub is_answered : Command → Bool
+is_answered (command.Batch edits) = false
+is_answered (command.Send k reads) = false
+is_answered (command.Read k reads) = list_all is_own_read reads
+is_answered _ = true
+
+-- a read is of a live snapshot
+abbrev pub is_held : List Kept → Command → Bool
+is_held held (command.Read k reads) = is_some (find (has_number k) held)
+is_held held _ = true
+
+-- how many watchers a command attaches
+abbrev pub is_watch : Command → Bool
+is_watch (command.Watch id) = true
+is_watch _ = false
+
+abbrev pub watches_in : List Command → ℕ
+watches_in cs = count_by is_watch cs

@@ -1,7 +1,7 @@
 //! The program: it runs a script from standard input, and writes its transcript to standard output.
 //!
 //! A run goes through these modules: `input` reads the script's bytes, `answer` turns them into those
-//! of the transcript by calls of the buffer, and `output` writes them.
+//! of the transcript, `session` answers each command by calls of the buffer, and `output` writes the bytes.
 //! `run` joins them, and its contract says what the program does.
 #![tactic(auto)]
 
@@ -10,15 +10,20 @@ mod answer;
 mod input;
 mod output;
 mod run;
+mod session;
 mod status;
 #[cfg(test)]
 mod tests;
+mod unheard;
 
 use adapters::{Reading, Writing};
+use points::MAX_WATCHERS;
 pub use run::run_script;
 pub use status::Status;
 use std::process::ExitCode;
 use std::{env, io};
+use unheard::are_unheard;
+use watch::{ListWatcher, Watcher};
 
 fn main(rt: HostRuntime) -> ExitCode {
     let status = run_program(&rt);
@@ -39,7 +44,23 @@ fn run_program(rt: &HostRuntime) -> Status {
     let Ok(words) = args.collect::<Vec<String>>(alloc) else {
         return Status::NoMemory;
     };
+    // Watchers that keep nothing of what they hear.
+    let mut watchers: Vec<Box<dyn Watcher>> = Vec::new(alloc);
+    for _ in 0..MAX_WATCHERS {
+        let Ok(watcher) = ListWatcher::new(alloc, 0) else {
+            return Status::NoMemory;
+        };
+        let Ok(watcher) = Box::new(alloc, watcher) else {
+            return Status::NoMemory;
+        };
+        if watchers.push(watcher).is_err() {
+            return Status::NoMemory;
+        }
+    }
+    if watchers.len() != MAX_WATCHERS || !are_unheard(watchers.as_slice()) {
+        return Status::NoMemory;
+    }
     let mut input = Reading::new(rt.reader());
     let mut output = Writing::new(io::writer(rt));
-    run_script(alloc, words.as_slice(), &mut input, &mut output)
+    run_script(alloc, words.as_slice(), &mut input, &mut output, watchers)
 }

@@ -1,5 +1,6 @@
 //! The top call: it reads the script, answers it and writes the transcript. Its contract is what the program promises.
-ghost use Rattle.std.specs.Prelude.{◌≡◌, ◌⊎◌, ◌↔◌, ℕ, ◌≤◌, List, true, false, IfSome};
+ghost use Rattle.std.specs.Prelude.{◌≡◌, ◌⊎◌, ◌↔◌, ℕ, ◌≤◌, List, length, true, false, IfSome};
+ghost use Rattle.std.specs.List.{AllByRecursion};
 ghost use Rattle.outer.specs.Count.{Rose};
 ghost use Rattle.outer.specs.Source.{Gives};
 ghost use Rattle.buffer_cli.specs.Run.{is_run_line, Explains, expected};
@@ -11,15 +12,20 @@ use crate::status::Status;
 use outer::{Sink, Source};
 use script::ScriptRefusal;
 use std::alloc::Global;
+use watch::Watcher;
 
 /// Runs the script that the input holds, and writes its transcript to the output.
-/// The words are those behind the program's name.
+/// The words are those behind the program's name. The k-th `watch` of the script attaches the k-th of the watchers, none
+/// of which has heard a change yet.
 pub fn run_script<I: Source, O: Sink>(
     alloc: Global,
     words: &[String],
     input: &mut I,
     output: &mut O,
+    watchers: Vec<Box<dyn Watcher>>,
 ) -> Status
+    requires watchers { length watchers.items ≡ 64 }
+    requires unheard { AllByRecursion (λ w. count_of w ≡ 0) watchers.items }
     // Each status has its cause in the bytes that were read and in what the output took. On Done the
     // input was read to its end, and the output took the text of a transcript that is lawful for the
     // script whose bytes were read.
@@ -53,7 +59,7 @@ pub fn run_script<I: Source, O: Sink>(
         Err(InputFault::TooLong) => return Status::InputTooLong,
         Err(InputFault::NoMemory) => return Status::NoMemory,
     };
-    match answer(alloc, bytes) {
+    match answer(alloc, bytes, watchers) {
         Ok(text) => match write_all(output, text.as_slice()) {
             Ok(()) => Status::Done,
             Err(_) => Status::WriteFault,

@@ -1,14 +1,16 @@
 //! The top call over sources and sinks in memory, the adapters over readers and writers, and the lines of the statuses.
 use crate::adapters::{Reading, Writing};
+use crate::unheard::are_unheard;
 use crate::{Status, run_script};
 use buffer::Buffer;
 use machine::{CallRefusal, Command, Reply, Text};
 use outer::{MemSink, MemSource, Sink, Source, SureSink, SureSource};
-use points::{Point, Range};
+use points::{MAX_WATCHERS, Point, Range};
 use script::ScriptRule;
 use std::alloc::{AllocError, Global};
 use std::io;
 use std::test::Fail;
+use watch::{ListWatcher, Watcher};
 
 /// The script of the program's stored run, and its transcript.
 const HI: &str = r#"{"version":1,"open":{"text":""},"sessions":[[
@@ -33,6 +35,24 @@ fn words(alloc: Global, list: &[&str]) -> Result<Vec<String>, AllocError> {
     Ok(words)
 }
 
+/// Runs a script with watchers that keep nothing of what they hear.
+fn run_watched<I: Source, O: Sink>(
+    alloc: Global,
+    words: &[String],
+    input: &mut I,
+    output: &mut O,
+) -> Option<Status> {
+    let mut watchers: Vec<Box<dyn Watcher>> = Vec::new(alloc);
+    for _ in 0..MAX_WATCHERS {
+        let watcher = Box::new(alloc, ListWatcher::new(alloc, 0).ok()?).ok()?;
+        watchers.push(watcher).ok()?;
+    }
+    if watchers.len() != MAX_WATCHERS || !are_unheard(watchers.as_slice()) {
+        return None;
+    }
+    Some(run_script(alloc, words, input, output, watchers))
+}
+
 /// Runs a script in memory, with calls of the input and of the output that fail.
 fn run(
     alloc: Global,
@@ -44,7 +64,7 @@ fn run(
     let words = words(alloc, line)?;
     let mut input = MemSource::new(script, read_fails);
     let mut output = MemSink::new(alloc, 4096, put_fails)?;
-    let status = run_script(alloc, words.as_slice(), &mut input, &mut output);
+    let status = run_watched(alloc, words.as_slice(), &mut input, &mut output).ok_or("watchers")?;
     Ok((status, output))
 }
 
@@ -171,8 +191,8 @@ fn refuses_an_input_past_its_limit(rt: HostRuntime) -> Result<(), Fail> {
 fn runs_surely(alloc: Global, words: &[String]) -> Result<bool, Fail> {
     let mut input = SureSource::new(HI.as_bytes().to_vec(alloc)?);
     let mut output = SureSink::new(alloc, 4096)?;
-    let status = run_script(alloc, words, &mut input, &mut output);
-    Ok(status == Status::Done && output.bytes() == Some(HI_TRANSCRIPT.as_bytes()))
+    let status = run_watched(alloc, words, &mut input, &mut output);
+    Ok(status == Some(Status::Done) && output.bytes() == Some(HI_TRANSCRIPT.as_bytes()))
 }
 
 #[test]
