@@ -1,7 +1,7 @@
 //! Worked examples: each call, where it was made, and what marks, steps and watchers become.
 use crate::asked::{Ask, Corners};
 use crate::played::played;
-use crate::told::{Told, at, part, tell, told};
+use crate::told::{Told, at, part, tell, told_of};
 use machine::{CallRefusal, How, Reply};
 use points::{MAX_STEPS, MAX_WATCHERS, MarkOrder};
 use std::alloc::Global;
@@ -205,7 +205,7 @@ fn replies_to_watchers(alloc: Global) -> Option<Vec<Reply>> {
 
 fn tells_at(replies: &[Reply], place: usize, expected: Told<'_>) -> bool {
     match replies.get(place) {
-        Some(reply) => told(reply) == Some(expected),
+        Some(reply) => told_of(reply) == Some(expected),
         None => false,
     }
 }

@@ -41,7 +41,7 @@ pub fn at(column: u32) -> Point {
 }
 
 /// What a reply to a call or to a squash tells.
-pub fn told(reply: &Reply) -> Option<Told<'_>> {
+pub fn told_of(reply: &Reply) -> Option<Told<'_>> {
     match reply {
         Reply::Edited {
             at,
@@ -87,7 +87,7 @@ fn seen(reply: &Reply) -> Option<Told<'_>> {
 
 /// Whether both tell the same.
 pub fn tell_same(left: &Reply, right: &Reply) -> bool {
-    match (told(left), told(right)) {
+    match (told_of(left), told_of(right)) {
         (Some(left), Some(right)) => left == right,
         _ => false,
     }
@@ -115,5 +115,5 @@ pub fn tell(replies: &[Reply], expected: &[Told<'_>]) -> bool {
         && replies
             .iter()
             .zip(expected)
-            .all(|(reply, expected)| told(reply) == Some(*expected))
+            .all(|(reply, expected)| told_of(reply) == Some(*expected))
 }
