@@ -44,10 +44,11 @@ fn literals_in(
     ensures { IfOk result (λ found. answer_of found ≡ literal_answer (mended reader.now.text) limit needle.now) }
 {
     prove!(reader.len() <= MAX_UNITS);
-    let text = reader.to_text()?;
+    let copy = reader.to_text()?;
+    let text = copy.as_str();
     let mut hits = Spans::new(alloc);
-    let count = find_literals(text.as_str(), needle, limit, &mut hits)?;
-    let first = ranges_of(alloc, text.as_str(), hits.as_slice())?;
+    let count = find_literals(text, needle, limit, &mut hits)?;
+    let first = ranges_of(alloc, text, hits.as_slice())?;
     Ok(Found {
         count,
         first: Ranges::from_vec(first),
@@ -66,10 +67,11 @@ pub fn find_pattern<M: Matcher>(
     ensures finds { IfOk result (λ found. FindsIn (M.tells matcher.old) reader.now.text limit found) }
 {
     prove!(reader.len() <= MAX_UNITS);
-    let text = reader.to_text()?;
+    let copy = reader.to_text()?;
+    let text = copy.as_str();
     let mut hits = Spans::new(alloc);
-    let count = matcher.find_all(alloc, text.as_str(), limit, &mut hits)?;
-    let first = ranges_of(alloc, text.as_str(), hits.as_slice())?;
+    let count = matcher.find_all(alloc, text, limit, &mut hits)?;
+    let first = ranges_of(alloc, text, hits.as_slice())?;
     Ok(Found {
         count,
         first: Ranges::from_vec(first),
