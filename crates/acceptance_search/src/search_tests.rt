@@ -104,7 +104,10 @@ fn refuses_empty(alloc: Global) -> bool {
     match LineText::from_str(alloc, "ab") {
         Ok(text) => match reader_of(alloc, text) {
             Some(reader) => {
-                matches!(find_literal(alloc, &reader, "", 10), Err(FindRefusal::EmptyNeedle))
+                matches!(
+                    find_literal(alloc, &reader, "", 10),
+                    Err(FindRefusal::EmptyNeedle)
+                )
             }
             None => false,
         },

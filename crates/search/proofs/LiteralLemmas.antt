@@ -49,21 +49,27 @@ utf8_word c = elim (cases_lt c 128) [
   | inl one ↦ record { first = c; rest = []; parts = cond-true _ _ _ (lt-ltb c 128 one); begins = first_low c one; goes_on = tt }
   | inr not_one ↦ elim (cases_lt c 2048) [
     | inl two ↦ record {
-        first = 192 + c / 64; rest = (128 + c % 64) ∷ [];
-        parts = cond-false _ _ _ (le-ltb c 128 not_one) ∙ cond-true _ _ _ (lt-ltb c 2048 two);
-        begins = first_high (192 + c / 64) (omega arith); goes_on = (later_six c, tt);
-      }
+      first = 192 + c / 64;
+      rest = (128 + c % 64) ∷ [];
+      parts = cond-false _ _ _ (le-ltb c 128 not_one) ∙ cond-true _ _ _ (lt-ltb c 2048 two);
+      begins = first_high (192 + c / 64) (omega arith);
+      goes_on = (later_six c, tt);
+    }
     | inr not_two ↦ elim (cases_lt c 65536) [
       | inl three ↦ record {
-          first = 224 + c / 4096; rest = (128 + (c / 64) % 64) ∷ (128 + c % 64) ∷ [];
-          parts = cond-false _ _ _ (le-ltb c 128 not_one) ∙ (cond-false _ _ _ (le-ltb c 2048 not_two) ∙ cond-true _ _ _ (lt-ltb c 65536 three));
-          begins = first_high (224 + c / 4096) (omega arith); goes_on = (later_six (c / 64), (later_six c, tt));
-        }
+        first = 224 + c / 4096;
+        rest = (128 + (c / 64) % 64) ∷ (128 + c % 64) ∷ [];
+        parts = cond-false _ _ _ (le-ltb c 128 not_one) ∙ (cond-false _ _ _ (le-ltb c 2048 not_two) ∙ cond-true _ _ _ (lt-ltb c 65536 three));
+        begins = first_high (224 + c / 4096) (omega arith);
+        goes_on = (later_six (c / 64), (later_six c, tt));
+      }
       | inr not_three ↦ record {
-          first = 240 + c / 262144; rest = (128 + (c / 4096) % 64) ∷ (128 + (c / 64) % 64) ∷ (128 + c % 64) ∷ [];
-          parts = cond-false _ _ _ (le-ltb c 128 not_one) ∙ (cond-false _ _ _ (le-ltb c 2048 not_two) ∙ cond-false _ _ _ (le-ltb c 65536 not_three));
-          begins = first_high (240 + c / 262144) (omega arith); goes_on = (later_six (c / 4096), (later_six (c / 64), (later_six c, tt)));
-        }
+        first = 240 + c / 262144;
+        rest = (128 + (c / 4096) % 64) ∷ (128 + (c / 64) % 64) ∷ (128 + c % 64) ∷ [];
+        parts = cond-false _ _ _ (le-ltb c 128 not_one) ∙ (cond-false _ _ _ (le-ltb c 2048 not_two) ∙ cond-false _ _ _ (le-ltb c 65536 not_three));
+        begins = first_high (240 + c / 262144) (omega arith);
+        goes_on = (later_six (c / 4096), (later_six (c / 64), (later_six c, tt)));
+      }
     ]
   ]
 ]
@@ -79,45 +85,46 @@ abbrev begins_utf16 : ℕ → Bool
 begins_utf16 u = not (is_low_surrogate u)
 
 no_low : (u : ℕ) → (u < 0xDC00) ⊎ (0xE000 ≤ u) → begins_utf16 u ≡ true
-no_low u h = elim h [ | inl below ↦ grind (arith, nat_tests) | inr above ↦ grind (arith, nat_tests) ]
+no_low u h = elim h [ inl below ↦ grind (arith, nat_tests) | inr above ↦ grind (arith, nat_tests) ]
 
 low : (u : ℕ) → 0xDC00 ≤ u → u < 0xE000 → begins_utf16 u ≡ false
 low u from below = grind (arith, nat_tests)
 
 scalar_small : (c : ℕ) → scalar c ≡ true → (c < 0xDC00) ⊎ (0xE000 ≤ c)
-scalar_small c e = elim (scalar_cases c e) [ | inl below ↦ inl (omega arith) | inr above ↦ inr above.0 ]
+scalar_small c e = elim (scalar_cases c e) [ inl below ↦ inl (omega arith) | inr above ↦ inr above.0 ]
 
 scalar_below : (c : ℕ) → scalar c ≡ true → c < 0x11_0000
-scalar_below c e = elim (scalar_cases c e) [ | inl below ↦ omega arith | inr above ↦ above.1 ]
+scalar_below c e = elim (scalar_cases c e) [ inl below ↦ omega arith | inr above ↦ above.1 ]
 
 utf16_word : (c : ℕ) → scalar c ≡ true → IsWord begins_utf16 (encode_utf16 c)
 utf16_word c e = elim (cases_lt c 0x1_0000) [
   | inl one ↦ record { first = c; rest = []; parts = encode_one c one; begins = no_low c (scalar_small c e); goes_on = tt }
   | inr two ↦ let fits = scalar_below c e in record {
-      first = 0xD800 + (c - 0x1_0000) / 0x400; rest = (0xDC00 + (c - 0x1_0000) % 0x400) ∷ [];
-      parts = encode_two c two;
-      begins = no_low (0xD800 + (c - 0x1_0000) / 0x400) (inl (omega (arith, fits)));
-      goes_on = (low (0xDC00 + (c - 0x1_0000) % 0x400) (omega arith) (omega arith), tt);
-    }
+    first = 0xD800 + (c - 0x1_0000) / 0x400;
+    rest = (0xDC00 + (c - 0x1_0000) % 0x400) ∷ [];
+    parts = encode_two c two;
+    begins = no_low (0xD800 + (c - 0x1_0000) / 0x400) (inl (omega (arith, fits)));
+    goes_on = (low (0xDC00 + (c - 0x1_0000) % 0x400) (omega arith) (omega arith), tt);
+  }
 ]
 
 one_and_two : (c d : ℕ) (r t : List ℕ) → scalar c ≡ true → scalar d ≡ true → 0x1_0000 ≤ d → c ∷ r ≡ (0xD800 + (d - 0x1_0000) / 0x400) ∷ t → ⊥
 one_and_two c d r t scalar_c scalar_d two e = let same = (cons_parts e).0 in let fits = scalar_below d scalar_d in
-    elim (scalar_cases c scalar_c) [ | inl below ↦ omega (arith, same) | inr above ↦ omega (arith, same, fits, above.0) ]
+    elim (scalar_cases c scalar_c) [ inl below ↦ omega (arith, same) | inr above ↦ omega (arith, same, fits, above.0) ]
 
 utf16_same : (c d : ℕ) (r t : List ℕ) → scalar c ≡ true → scalar d ≡ true → encode_utf16 c ++ r ≡ encode_utf16 d ++ t → (c ≡ d) × (r ≡ t)
 utf16_same c d r t scalar_c scalar_d e = elim (cases_lt c 0x1_0000) [
   | inl one ↦ let left = ap (λ (xs : List ℕ). xs ++ r) (sym (encode_one c one)) in elim (cases_lt d 0x1_0000) [
-      | inl one_d ↦ cons_parts (left ∙ (e ∙ ap (λ (xs : List ℕ). xs ++ t) (encode_one d one_d)))
-      | inr two_d ↦ absurd (one_and_two c d _ _ scalar_c scalar_d two_d (left ∙ (e ∙ ap (λ (xs : List ℕ). xs ++ t) (encode_two d two_d))))
-    ]
+    | inl one_d ↦ cons_parts (left ∙ (e ∙ ap (λ (xs : List ℕ). xs ++ t) (encode_one d one_d)))
+    | inr two_d ↦ absurd (one_and_two c d _ _ scalar_c scalar_d two_d (left ∙ (e ∙ ap (λ (xs : List ℕ). xs ++ t) (encode_two d two_d))))
+  ]
   | inr two ↦ let left = ap (λ (xs : List ℕ). xs ++ r) (sym (encode_two c two)) in elim (cases_lt d 0x1_0000) [
-      | inl one_d ↦ absurd (one_and_two d c _ _ scalar_d scalar_c two (sym (left ∙ (e ∙ ap (λ (xs : List ℕ). xs ++ t) (encode_one d one_d)))))
-      | inr two_d ↦
-          let firsts = cons_parts (left ∙ (e ∙ ap (λ (xs : List ℕ). xs ++ t) (encode_two d two_d))) in
-          let seconds = cons_parts firsts.1 in
-          (omega (arith, firsts.0, seconds.0, two, two_d), seconds.1)
-    ]
+    | inl one_d ↦ absurd (one_and_two d c _ _ scalar_d scalar_c two (sym (left ∙ (e ∙ ap (λ (xs : List ℕ). xs ++ t) (encode_one d one_d)))))
+    | inr two_d ↦
+        let firsts = cons_parts (left ∙ (e ∙ ap (λ (xs : List ℕ). xs ++ t) (encode_two d two_d))) in
+        let seconds = cons_parts firsts.1 in
+        (omega (arith, firsts.0, seconds.0, two, two_d), seconds.1)
+  ]
 ]
 
 utf16_spelling : IsSpelling encode_utf16 scalar begins_utf16

@@ -141,7 +141,7 @@ module _ (spell : ℕ → List ℕ) (good lead : ℕ → Bool) (spelling : IsSpe
         at_hit stands later =
             let split = stands_split ns (c ∷ cs) stands in
             let reach : length (spelled ns) ≡ place_in (c ∷ cs) (suc (length ns - 1)) = let k : suc (length ns - 1) ≡ length ns = omega (arith, some) in
-                sym (ap (λ (n : ℕ). place_in (c ∷ cs) n) k ∙ place_at (c ∷ cs) ns (drop (length ns) (c ∷ cs)) split) in
+            sym (ap (λ (n : ℕ). place_in (c ∷ cs) n) k ∙ place_at (c ∷ cs) ns (drop (length ns) (c ∷ cs)) split) in
             let front : spelled (c ∷ cs) ≡ w.first ∷ (w.rest ++ spelled cs) = ap (λ (xs : List ℕ). xs ++ spelled cs) w.parts in
             let some_spelled : 0 < length (spelled ns) = spelled_some ns some needle in
             hit_spelled (length (spelled p)) (spelled (c ∷ cs)) w.first (w.rest ++ spelled cs) front some_spelled (stands_spelled ns (c ∷ cs) needle h ∙ stands)
