@@ -1,14 +1,13 @@
 -- From the hits of a search to what it answers.
-use Rattle.std.proofs.Common.{◌≡◌, ℕ, ◌+◌, ◌*◌, ◌<◌, ◌≤◌, List, [], ◌++◌, length, take, map, Option, Some, IfSome, IsUtf8, refl, sym, ap, subst, ◌∙◌, arith}
+use Rattle.std.proofs.Common.{◌≡◌, ℕ, ◌<◌, ◌≤◌, List, [], length, take, map, Option, Some, IfSome, IsUtf8, sym, ap, subst, ◌∙◌, arith}
 use Rattle.std.proofs.lemmas.List.{length-map, take-map}
 use Rattle.points.specs.declared.range.Range.{Range}
 use Rattle.points.specs.declared.limits.TheConstants.{MAX_UNITS, MAX_COORD}
 use Rattle.points.specs.Text.{utf16_of, text_of, mended}
 use Rattle.points.specs.Literal.{hits}
 use Rattle.machine.specs.declared.reply.Span.{Span}
-use Rattle.machine.specs.declared.reads.ReadAnswer.{ReadAnswer}
 use Rattle.machine.specs.declared.reads.ReadAnswer.TheVariants as answer
-use Rattle.machine.specs.Answers.{found, span_at, span_of_bytes}
+use Rattle.machine.specs.Answers.{found, span_of_bytes}
 use Rattle.outer.specs.Matcher.{ToldHits, AreHits, Finds}
 use Rattle.outer.specs.Literal.{literal_hits}
 use Rattle.search.specs.declared.found.Found.{Found}

@@ -1,5 +1,5 @@
 -- The literal hits in the bytes of a text are, as points, those in its units.
-use Rattle.std.proofs.Common.{◌≡◌, ◌⊎◌, ℕ, zero, suc, ◌+◌, ◌-◌, ◌*◌, ◌/◌, ◌%◌, ◌<◌, ◌≤◌, List, [], ◌∷◌, ◌++◌, length, take, drop, map, flat_map, Bool, true, false, not, ◌||◌, ltb, leb, IsUtf8, chars, encode_utf8, encode_utf8_all, refl, sym, ap, subst, ◌∙◌, inl, inr, arith, length-append, append_assoc, append-nil, take-append-drop, length-take-le}
+use Rattle.std.proofs.Common.{◌≡◌, ◌⊎◌, ℕ, zero, suc, ◌+◌, ◌-◌, ◌/◌, ◌%◌, ◌<◌, ◌≤◌, List, [], ◌∷◌, ◌++◌, length, take, drop, map, flat_map, Bool, true, false, not, ◌||◌, ltb, leb, IsUtf8, chars, encode_utf8_all, refl, sym, ap, ◌∙◌, inl, inr, arith, length-append, append_assoc, take-append-drop, length-take-le}
 use Rattle.std.specs.List.{AllByRecursion}
 use Rattle.std.specs.Char.Escape.{encode_utf16}
 use Rattle.std.specs.Char.Utf16.{is_low_surrogate}

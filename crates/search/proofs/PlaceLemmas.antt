@@ -1,20 +1,19 @@
 -- Points of byte offsets between characters, and how they follow one another.
-use Rattle.std.proofs.Common.{◌≡◌, ℕ, zero, suc, ◌+◌, ◌-◌, ◌*◌, ◌<◌, ◌≤◌, List, [], ◌∷◌, ◌++◌, length, take, drop, get_or, map, IsUtf8, IsCharBoundary, chars, slice_range, true, refl, sym, ap, subst, ◌∙◌, arith, length-append, append_assoc, append-nil, take-append-drop}
+use Rattle.std.proofs.Common.{◌≡◌, ℕ, zero, suc, ◌+◌, ◌-◌, ◌<◌, ◌≤◌, List, [], ◌∷◌, ◌++◌, length, take, drop, get_or, IsUtf8, IsCharBoundary, chars, slice_range, sym, ap, subst, ◌∙◌, arith, length-append, append-nil, take-append-drop}
 use Rattle.std.specs.Char.Escape.{encode_utf16}
-use Rattle.std.proofs.lemmas.Str.{IsUtf8-take, IsUtf8-drop, IsUtf8-between, chars-nil, chars-append}
+use Rattle.std.proofs.lemmas.Str.{IsUtf8-take, chars-nil, chars-append}
 use Rattle.std.proofs.lemmas.Bool.Decides.{nat_tests}
 use Rattle.std.proofs.lemmas.List.{drop-take, drop_more, take-take}
 use Rattle.points.specs.declared.point.Point.{Point}
-use Rattle.points.specs.Point.{IsWithin, origin, point_le, traverse}
+use Rattle.points.specs.Point.{IsWithin, origin, traverse}
 use Rattle.points.specs.Text.{utf16, utf16_of}
 use Rattle.points.specs.Place.{extent}
-use Rattle.points.proofs.PointLemmas.{traverse_assoc, point_le-traverse}
+use Rattle.points.proofs.PointLemmas.{traverse_assoc}
 use Rattle.points.proofs.ExtentLemmas.{extent-append}
 use Rattle.points.proofs.ExtentParts.{extent_within}
 use Rattle.points.proofs.TextLemmas.{utf16-append}
-use Rattle.machine.specs.declared.reply.Span.{Span}
-use Rattle.machine.specs.Answers.{point_of_byte, span_of_bytes}
-use Rattle.outer.specs.Matcher.{AreHitsFrom, AreHits}
+use Rattle.machine.specs.Answers.{point_of_byte}
+use Rattle.outer.specs.Matcher.{AreHitsFrom}
 
 -- where a point leads over an extent, as far as both count
 pub traverse_within : (a b m : ℕ) (p e : Point) → IsWithin a p → IsWithin b e → a + b ≤ m → IsWithin m (traverse p e)

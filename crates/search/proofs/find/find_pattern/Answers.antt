@@ -1,6 +1,5 @@
-use Rattle.std.proofs.Common.{◌≡◌, List, ℕ, Some, length, ap, subst, sym, ◌∙◌, ◌≤◌}
+use Rattle.std.proofs.Common.{ℕ, length, subst, ◌∙◌, ◌≤◌}
 use Rattle.points.specs.declared.limits.TheConstants.{MAX_UNITS}
-use Rattle.points.specs.Text.{text_of}
 use Rattle.search.proofs.FindLemmas.{is_search, shown-sound, shown-short, shown}
 use Rattle.search.proofs.find.find_pattern.Goals as goal
 

@@ -1,4 +1,4 @@
-use Rattle.std.proofs.Common.{◌≡◌, ◌≤◌, ℕ, List, length, slice_range, sym, ap, subst, ◌∙◌}
+use Rattle.std.proofs.Common.{◌≤◌, ℕ, List, length, sym, ap, subst, ◌∙◌}
 use Rattle.points.specs.declared.point.Point.{Point}
 use Rattle.points.specs.declared.limits.TheConstants.{MAX_COORD}
 use Rattle.points.specs.Point.{IsWithin, traverse}
