@@ -9,20 +9,33 @@
 #![tactic(auto)]
 
 mod failed;
+pub mod laws;
+mod literal;
+mod literal_maker;
+mod matcher;
 mod mem_sink;
 mod mem_source;
+mod pattern_maker;
 mod plan;
 mod remaining;
 mod sink;
 mod source;
+mod spans;
 mod store;
+mod sure_maker;
 mod sure_sink;
 mod sure_source;
 
 pub use failed::Failed;
+pub use literal::{LiteralMatcher, find_literals};
+pub use literal_maker::LiteralMaker;
+pub use matcher::Matcher;
 pub use mem_sink::MemSink;
 pub use mem_source::MemSource;
+pub use pattern_maker::{MakeRefusal, PatternMaker};
 pub use sink::Sink;
 pub use source::Source;
+pub use spans::Spans;
+pub use sure_maker::SureMaker;
 pub use sure_sink::SureSink;
 pub use sure_source::SureSource;

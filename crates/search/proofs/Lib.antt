@@ -1,0 +1,5 @@
+pub mod MendLemmas
+pub mod PlaceLemmas
+pub mod SpellLemmas
+pub mod LiteralLemmas
+pub mod FindLemmas

@@ -1,0 +1,22 @@
+use Rattle.std.proofs.Common.{ap, map}
+use Rattle.std.proofs.lemmas.Str.{IsCharBoundary-start}
+use Rattle.search.specs.Answer.{span_of}
+use Rattle.search.proofs.PlaceLemmas.{point_of_start, next_hit}
+use Rattle.search.proofs.place.ranges_of.Goals as goal
+
+pub loop-start-init : goal.loop-start-init
+loop-start-init c = record {
+  point = point_of_start c.args.text.now;
+  boundary = IsCharBoundary-start c.args.text.now c.utf8.text;
+  left = c.requires.sound;
+  ranges = ap (map span_of) c.in_ok-ranges.ensures.items;
+}
+
+pub moved-first-requires-clause-order : goal.moved-first-requires-clause-order
+moved-first-requires-clause-order c = (next_hit _ _ _ _ c.loop-start-test.true c.loop-start.invariant.left).0
+
+pub moved-first-requires-clause-end : goal.moved-first-requires-clause-end
+moved-first-requires-clause-end c = (next_hit _ _ _ _ c.loop-start-test.true c.loop-start.invariant.left).2
+
+pub moved-first-requires-clause-point : goal.moved-first-requires-clause-point
+moved-first-requires-clause-point c = c.loop-start.invariant.point
