@@ -33,73 +33,48 @@ fn steps_of(alloc: Global, rows: &[u32]) -> Result<Steps, Fail> {
     Ok(steps)
 }
 
-fn undoes(steps: &mut Steps, row: u32) -> bool {
-    is_step(steps.undo(), row)
-}
-
-fn redoes(steps: &mut Steps, row: u32) -> bool {
-    is_step(steps.redo(), row)
-}
-
-fn has_no_undo(steps: &mut Steps) -> bool {
-    steps.undo().is_none()
-}
-
-fn has_no_redo(steps: &mut Steps) -> bool {
-    steps.redo().is_none()
-}
-
-// Pushes the step at a row. Whether the one at the other row falls out, or none.
-fn pushes(alloc: Global, steps: &mut Steps, row: u32, gone: Option<u32>) -> bool {
-    let Ok(step) = step(alloc, row) else {
-        return false;
-    };
-    let fell = steps.push(step);
-    match gone {
-        Some(row) => is_step(fell.as_ref(), row),
-        None => fell.is_none(),
-    }
-}
-
 #[test]
 fn takes_back_and_makes_again(rt: HostRuntime) -> Result<(), Fail> {
     let mut steps = steps_of(rt.alloc(), &[1, 2])?;
-    assert!(rt; has_no_redo(&mut steps));
+    assert!(rt; steps.redo().is_none());
     for row in [2, 1] {
-        assert!(rt; undoes(&mut steps, row), "{row}");
+        assert!(rt; is_step(steps.undo(), row), "{row}");
     }
-    assert!(rt; has_no_undo(&mut steps));
+    assert!(rt; steps.undo().is_none());
     for row in [1, 2] {
-        assert!(rt; redoes(&mut steps, row), "{row}");
+        assert!(rt; is_step(steps.redo(), row), "{row}");
     }
-    assert!(rt; has_no_redo(&mut steps));
+    assert!(rt; steps.redo().is_none());
     Ok(())
 }
 
 #[test]
 fn a_new_step_empties_the_future(rt: HostRuntime) -> Result<(), Fail> {
     let mut steps = steps_of(rt.alloc(), &[1, 2])?;
-    assert!(rt; undoes(&mut steps, 2));
-    assert!(rt; pushes(rt.alloc(), &mut steps, 3, None));
-    assert!(rt; has_no_redo(&mut steps));
+    assert!(rt; is_step(steps.undo(), 2));
+    let fell = steps.push(step(rt.alloc(), 3)?);
+    assert!(rt; fell.is_none());
+    assert!(rt; steps.redo().is_none());
     for row in [3, 1] {
-        assert!(rt; undoes(&mut steps, row), "{row}");
+        assert!(rt; is_step(steps.undo(), row), "{row}");
     }
-    assert!(rt; has_no_undo(&mut steps));
+    assert!(rt; steps.undo().is_none());
     Ok(())
 }
 
 #[test]
 fn undo_ring_forgets_the_oldest(rt: HostRuntime) -> Result<(), Fail> {
-    let mut steps = steps_of(rt.alloc(), &[])?;
+    let mut steps = Steps::new(rt.alloc())?;
     for row in 0..MAX_STEPS as u32 {
-        assert!(rt; pushes(rt.alloc(), &mut steps, row, None), "{row}");
+        let fell = steps.push(step(rt.alloc(), row)?);
+        assert!(rt; fell.is_none(), "{row}");
     }
-    assert!(rt; pushes(rt.alloc(), &mut steps, MAX_STEPS as u32, Some(0)));
+    let fell = steps.push(step(rt.alloc(), MAX_STEPS as u32)?);
+    assert!(rt; is_step(fell.as_ref(), 0));
     for row in (1..MAX_STEPS as u32 + 1).rev() {
-        assert!(rt; undoes(&mut steps, row), "{row}");
+        assert!(rt; is_step(steps.undo(), row), "{row}");
     }
-    assert!(rt; has_no_undo(&mut steps));
-    assert!(rt; redoes(&mut steps, 1));
+    assert!(rt; steps.undo().is_none());
+    assert!(rt; is_step(steps.redo(), 1));
     Ok(())
 }

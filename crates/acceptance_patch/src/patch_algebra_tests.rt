@@ -43,22 +43,12 @@ fn fits_text(alloc: Global, rows: &[Row], text: &str) -> Result<bool, Fail> {
     Ok(fits(&patch_of(alloc, rows)?, &text))
 }
 
-// Whether the patch of these rows makes that of a text.
-fn makes(alloc: Global, rows: &[Row], text: &str, expected: &str) -> Result<bool, Fail> {
-    let made = applied(alloc, rows, text)??;
-    is_text(&made, expected)
-}
-
-// Whether one text fits the patch of these rows, and another doesn't.
-fn fits_one(alloc: Global, rows: &[Row], fitting: &str, other: &str) -> Result<bool, Fail> {
-    Ok(fits_text(alloc, rows, fitting)? && !fits_text(alloc, rows, other)?)
-}
-
 #[test]
 fn applies_joined_insertions(rt: HostRuntime) -> Result<(), Fail> {
     let one = [TWO[0]];
-    assert!(rt; fits_one(rt.alloc(), &one, "abcdef", "abXdef")?);
-    assert!(rt; makes(rt.alloc(), &one, "abcdef", "aXYdef")?);
+    assert!(rt; fits_text(rt.alloc(), &one, "abcdef")?);
+    assert!(rt; is_text(&applied(rt.alloc(), &one, "abcdef")??, "aXYdef")?);
+    assert!(rt; !fits_text(rt.alloc(), &one, "abXdef")?);
     Ok(())
 }
 
@@ -104,15 +94,7 @@ fn composed_on(
     Ok(Err("the text between doesn't fit the second patch")?)
 }
 
-// The patch of both in turn, the second on what the first makes of the text.
-fn composed(alloc: Global, text: &str, first: &[Row], second: &[Row]) -> Result<Patch, Fail> {
-    let text = LineText::from_str(alloc, text)?;
-    let first = patch_of(alloc, first)?;
-    let second = patch_of(alloc, second)?;
-    composed_on(alloc, &first, &second, &text)
-}
-
-// Whether the patches of these rows compose to those.
+// Whether the patches of these rows, the second on what the first makes of the text, compose to those.
 fn composes(
     alloc: Global,
     text: &str,
@@ -120,7 +102,10 @@ fn composes(
     second: &[Row],
     both: &[Row],
 ) -> Result<bool, Fail> {
-    let patch = composed(alloc, text, first, second)?;
+    let text = LineText::from_str(alloc, text)?;
+    let first = patch_of(alloc, first)?;
+    let second = patch_of(alloc, second)?;
+    let patch = composed_on(alloc, &first, &second, &text)?;
     has_changes(alloc, &patch, both)
 }
 
@@ -146,7 +131,7 @@ fn deletion_across_changes_joins_them(rt: HostRuntime) -> Result<(), Fail> {
     let second = [([0, 2, 0, 6], "Ydeg", [0, 2, 0, 3], "Z")];
     let both = [([0, 1, 0, 7], "bcdefg", [0, 1, 0, 3], "XZ")];
     assert!(rt; composes(rt.alloc(), "abcdefgh", &TWO, &second, &both)?);
-    assert!(rt; makes(rt.alloc(), &both, "abcdefgh", "aXZh")?);
+    assert!(rt; is_text(&applied(rt.alloc(), &both, "abcdefgh")??, "aXZh")?);
     Ok(())
 }
 
