@@ -1,0 +1,5 @@
+pub mod Pairs
+pub mod Gather
+pub mod Slots
+pub mod RisingLemmas
+pub mod ReplayLemmas
