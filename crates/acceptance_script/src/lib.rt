@@ -8,3 +8,5 @@ mod machine_tests;
 mod plain_replay_tests;
 #[cfg(test)]
 mod script_tests;
+#[cfg(test)]
+mod transcript_check_tests;

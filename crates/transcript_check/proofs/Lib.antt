@@ -3,3 +3,4 @@ pub mod Gather
 pub mod Slots
 pub mod RisingLemmas
 pub mod ReplayLemmas
+pub mod CheckLemmas

@@ -13,7 +13,7 @@ use std::alloc::Global;
 
 /// The numbered calls of a transcript in script order, and where each number stands among them.
 #[derive(Drop)]
-pub(crate) struct Formed<'a> {
+pub(crate) struct Numbered<'a> {
     pub(crate) calls: Vec<Called<'a>>,
     pub(crate) order: Vec<usize>,
 }
@@ -23,7 +23,7 @@ pub(crate) fn formed<'a>(
     alloc: Global,
     script: &'a Script,
     transcript: &'a Transcript,
-) -> Result<Option<Formed<'a>>, NoMemory>
+) -> Result<Option<Numbered<'a>>, NoMemory>
     ensures form { IfOk result (λ o. MatchOption o (HasForm script.now transcript.now → ⊥) (λ f. HasForm script.now transcript.now)) }
     ensures calls { IfOk result (λ o. MatchOption o (Unit {0}) (λ f. IsFormed script.now transcript.now f.calls.items f.order.items)) }
 {
@@ -41,6 +41,6 @@ pub(crate) fn formed<'a>(
     let calls = entries(alloc, sessions, replies)?;
     match in_order(alloc, calls.as_slice())? {
         None => Ok(None),
-        Some(order) => Ok(Some(Formed { calls, order })),
+        Some(order) => Ok(Some(Numbered { calls, order })),
     }
 }

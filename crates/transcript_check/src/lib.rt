@@ -2,9 +2,14 @@
 #![tactic(auto)]
 
 mod calls;
+mod check;
 mod form;
 mod forms;
 mod order;
 mod replay;
+mod replayed;
 mod rising;
 mod same;
+
+pub use check::replay_calls;
+pub use replayed::Replayed;
