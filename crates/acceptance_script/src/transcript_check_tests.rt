@@ -160,7 +160,10 @@ fn two_sessions_end(
     end: (u64, &str),
 ) -> Option<Replayed> {
     let script = two_sessions(alloc)?;
-    let replies = and(one(alloc, one(alloc, first)?)?, reader_replies(alloc, last)?)?;
+    let replies = and(
+        one(alloc, one(alloc, first)?)?,
+        reader_replies(alloc, last)?,
+    )?;
     let transcript = transcript(alloc, 1, end, replies)?;
     judged(alloc, &script, &transcript)
 }

@@ -22,12 +22,12 @@ no_lesser version s es m n a b less = a.fault (b.agree a.before less)
 
 one_call : (version : ℕ) (s : State) (es : List Entry) (m n : ℕ) → IsFirstCall version s es m → IsFirstCall version s es n → m ≡ n
 one_call version s es m n a b = elim (cases_lt a.before b.before) [
-    | inl less ↦ absurd (no_lesser version s es m n a b less)
-    | inr over ↦ elim (cases_lt b.before a.before) [
-      | inl less ↦ absurd (no_lesser version s es n m b a less)
-      | inr same ↦ omega (arith, over, same, a.number, b.number)
-    ]
+  | inl less ↦ absurd (no_lesser version s es m n a b less)
+  | inr over ↦ elim (cases_lt b.before a.before) [
+    | inl less ↦ absurd (no_lesser version s es n m b a less)
+    | inr same ↦ omega (arith, over, same, a.number, b.number)
   ]
+]
 
 no_call : (version : ℕ) (s : State) (es : List Entry) (n : ℕ) → CallsAgree version s es → IsFirstCall version s es n → ⊥
 no_call version s es n agree a = a.fault (agree a.before a.within)

@@ -30,9 +30,9 @@ none_left (c ∷ cs) = refl
 
 pub session_end : (cs : List Command) (rs : List Reply) (i : ℕ) → min (length cs) (length rs) ≤ i → session_entries (drop i cs) (drop i rs) ≡ []
 session_end cs rs i over = elim (cases_lt i (length cs)) [
-    | inl under ↦ ap (λ l. session_entries (drop i cs) l) (drop_all i rs (omega (arith, over, under))) ∙ none_left (drop i cs)
-    | inr past ↦ ap (λ l. session_entries l (drop i rs)) (drop_all i cs past)
-  ]
+  | inl under ↦ ap (λ l. session_entries (drop i cs) l) (drop_all i rs (omega (arith, over, under))) ∙ none_left (drop i cs)
+  | inr past ↦ ap (λ l. session_entries l (drop i rs)) (drop_all i cs past)
+]
 
 pub entries_at : (ss : List (List Command)) (rr : List (List Reply)) (i : ℕ) (cs : List Command) (rs : List Reply) → i < length ss → i < length rr → cs ≡ get_or ss i cs → rs ≡ get_or rr i rs
     → entries (drop i ss) (drop i rr) ≡ session_entries cs rs ++ entries (drop (i + 1) ss) (drop (i + 1) rr)
@@ -44,9 +44,9 @@ no_more (cs ∷ ss) = refl
 
 pub entries_end : (ss : List (List Command)) (rr : List (List Reply)) (i : ℕ) → min (length ss) (length rr) ≤ i → entries (drop i ss) (drop i rr) ≡ []
 entries_end ss rr i over = elim (cases_lt i (length ss)) [
-    | inl under ↦ ap (λ l. entries (drop i ss) l) (drop_all i rr (omega (arith, over, under))) ∙ no_more (drop i ss)
-    | inr past ↦ ap (λ l. entries l (drop i rr)) (drop_all i ss past)
-  ]
+  | inl under ↦ ap (λ l. entries (drop i ss) l) (drop_all i rr (omega (arith, over, under))) ∙ no_more (drop i ss)
+  | inr past ↦ ap (λ l. entries l (drop i rr)) (drop_all i ss past)
+]
 
 pub gathered_all : {X : Type 0} (all left total : List X) → left ≡ [] → all ++ left ≡ total → all ≡ total
 gathered_all all left total none so_far = sym (append-nil all) ∙ ap (λ xs. all ++ xs) (sym none) ∙ so_far

@@ -24,17 +24,17 @@ module _ {A B : Type 0} (E : A → B → Bool) (F : List A → List B → Bool) 
   pairs_other xs ys apart = sym (false_from_ne_true (F xs ys) (λ is. apart (pairs_long xs ys is)))
 
   pub pairs_at : (xs : List A) (ys : List B) (i : ℕ) (x : A) (y : B) → i < length xs → i < length ys → x ≡ get_or xs i x → y ≡ get_or ys i y
-    → F (drop i xs) (drop i ys) ≡ (E x y && F (drop (i + 1) xs) (drop (i + 1) ys))
+      → F (drop i xs) (drop i ys) ≡ (E x y && F (drop (i + 1) xs) (drop (i + 1) ys))
   pairs_at xs ys i x y a b left right = same (drop i xs) (drop i ys)
-    ∙ ap (λ l. pointwise E l (drop i ys)) (dropped xs i x a left) ∙ ap (λ l. pointwise E (x ∷ drop (i + 1) xs) l) (dropped ys i y b right)
-    ∙ ap (λ r. E x y && r) (sym (same (drop (i + 1) xs) (drop (i + 1) ys)))
+      ∙ ap (λ l. pointwise E l (drop i ys)) (dropped xs i x a left) ∙ ap (λ l. pointwise E (x ∷ drop (i + 1) xs) l) (dropped ys i y b right)
+      ∙ ap (λ r. E x y && r) (sym (same (drop (i + 1) xs) (drop (i + 1) ys)))
 
   pub pairs_more : (xs : List A) (ys : List B) (i : ℕ) (x : A) (y : B) → i < length xs → i < length ys → x ≡ get_or xs i x → y ≡ get_or ys i y
-    → true ≡ E x y → F xs ys ≡ F (drop i xs) (drop i ys) → F xs ys ≡ F (drop (i + 1) xs) (drop (i + 1) ys)
+      → true ≡ E x y → F xs ys ≡ F (drop i xs) (drop i ys) → F xs ys ≡ F (drop (i + 1) xs) (drop (i + 1) ys)
   pairs_more xs ys i x y a b left right holds so_far = so_far ∙ pairs_at xs ys i x y a b left right ∙ ap (λ r. r && F (drop (i + 1) xs) (drop (i + 1) ys)) (sym holds)
 
   pub pairs_fault : (xs : List A) (ys : List B) (i : ℕ) (x : A) (y : B) → i < length xs → i < length ys → x ≡ get_or xs i x → y ≡ get_or ys i y
-    → false ≡ E x y → F xs ys ≡ F (drop i xs) (drop i ys) → false ≡ F xs ys
+      → false ≡ E x y → F xs ys ≡ F (drop i xs) (drop i ys) → false ≡ F xs ys
   pairs_fault xs ys i x y a b left right fails so_far = sym (so_far ∙ pairs_at xs ys i x y a b left right ∙ ap (λ r. r && F (drop (i + 1) xs) (drop (i + 1) ys)) (sym fails))
 
   pub pairs_end : (xs : List A) (ys : List B) (i : ℕ) → length xs ≤ i → length ys ≤ i → F xs ys ≡ F (drop i xs) (drop i ys) → true ≡ F xs ys

@@ -14,9 +14,9 @@ none_of n slots none some = false≢true (ap is_some (sym none) ∙ some)
 -- at the start
 pub no_slots : (es : List Entry) (slots : List (Option ℕ)) → slots ≡ replicate (length es) None → AreSlots es 0 slots
 no_slots es slots is = record {
-    long = ap length is ∙ length-replicate (length es) None;
-    each = λ n h. subst (IsSlot es 0 (n + 1)) (sym (ap (λ l. get_or l n None) is ∙ get_or-replicate (length es) n None None h)) refl;
-  }
+  long = ap length is ∙ length-replicate (length es) None;
+  each = λ n h. subst (IsSlot es 0 (n + 1)) (sym (ap (λ l. get_or l n None) is ∙ get_or-replicate (length es) n None None h)) refl;
+}
 
 entry_at : (es : List Entry) (i : ℕ) (e : Entry) → i < length es → e ≡ get_or es i e → slice_get es i ≡ Some e
 entry_at es i e within is = slice_get-get_or es i e within ∙ ap (λ x. Some x) (sym is)
@@ -27,18 +27,21 @@ same_slot es i n None e within is apart slot = count_by_more_no (has_number n) e
 same_slot es i n (Some place) e within is apart slot = (omega (arith, slot.0), slot.1, count_by_more_no (has_number n) es i e within (ap (has_number n) (sym is) ∙ ne_eqb e.at n apart) ∙ slot.2)
 
 new_slot : (es : List Entry) (i n : ℕ) (e : Entry) → i < length es → e ≡ get_or es i e → e.at ≡ n → IsSlot es i n None → IsSlot es (i + 1) n (Some i)
-new_slot es i n e within is at slot = (omega arith, record { entry = e; stands = entry_at es i e within is; number = at },
-    count_by_more_yes (has_number n) es i e within (ap (has_number n) (sym is) ∙ eq-eqb e.at n at) ∙ ap (λ k. k + 1) slot)
+new_slot es i n e within is at slot = (
+  omega arith,
+  record { entry = e; stands = entry_at es i e within is; number = at },
+  count_by_more_yes (has_number n) es i e within (ap (has_number n) (sym is) ∙ eq-eqb e.at n at) ∙ ap (λ k. k + 1) slot,
+)
 
 pub next_slots : (es : List Entry) (i : ℕ) (e : Entry) (old new : List (Option ℕ)) → i < length es → e ≡ get_or es i e → IsFilled old e.at i new → AreSlots es i old → AreSlots es (i + 1) new
 next_slots es i e old new within is filled slots = record {
-    long = filled.long ∙ slots.long;
-    each = λ n h. elim (cases_eq e.at (n + 1)) [
-      | inl at ↦ let inside : n < length old = omega (arith, h, slots.long) in
+  long = filled.long ∙ slots.long;
+  each = λ n h. elim (cases_eq e.at (n + 1)) [
+    | inl at ↦ let inside : n < length old = omega (arith, h, slots.long) in
         subst (IsSlot es (i + 1) (n + 1)) (sym (filled.here n inside at)) (new_slot es i (n + 1) e within is at (subst (IsSlot es i (n + 1)) (filled.free n inside at) (slots.each n h)))
-      | inr apart ↦ subst (IsSlot es (i + 1) (n + 1)) (sym (filled.others n apart)) (same_slot es i (n + 1) (get_or old n None) e within is apart (slots.each n h))
-    ];
-  }
+    | inr apart ↦ subst (IsSlot es (i + 1) (n + 1)) (sym (filled.others n apart)) (same_slot es i (n + 1) (get_or old n None) e within is apart (slots.each n h))
+  ];
+}
 
 -- a number that stands twice
 some_counts : (es : List Entry) (i n : ℕ) (slot : Option ℕ) → is_some slot ≡ true → IsSlot es i n slot → count_by (has_number n) (take i es) ≡ 1
@@ -114,11 +117,11 @@ order_once es slots order is are n within = counted_all es (n + 1) (Some (get_or
 
 pub order_is : (es : List Entry) (slots : List (Option ℕ)) (order : List ℕ) → slots ≡ map (λ j. Some j) order → AreSlots es (length es) slots → IsOrder es order
 order_is es slots order is are = record {
-    long = sym (length-mapped order) ∙ ap length (sym is) ∙ are.long;
-    within = λ n h. (slot_there es slots order n h is are).0;
-    each = λ n h. let s = slot_there es slots order n h is are in
+  long = sym (length-mapped order) ∙ ap length (sym is) ∙ are.long;
+  within = λ n h. (slot_there es slots order n h is are).0;
+  each = λ n h. let s = slot_there es slots order n h is are in
       s.1.stands ∙ sym (found_once (n + 1) es (get_or order n 0) s.1.entry s.1.stands s.1.number (order_once es slots order is are n h));
-  }
+}
 
 pub gap_of : (es : List Entry) (slots : List (Option ℕ)) → HasGap slots → AreSlots es (length es) slots → IsOnce es → ⊥
 gap_of es slots hole are = gap es slots hole.index hole.within hole.none are

@@ -8,10 +8,7 @@ use points::NoMemory;
 use std::alloc::Global;
 
 /// Where each of the numbers 1 to N stands among the calls; none where one of them doesn't stand there exactly once.
-pub(crate) fn in_order(
-    alloc: Global,
-    calls: &[Called<'_>],
-) -> Result<Option<Vec<usize>>, NoMemory>
+pub(crate) fn in_order(alloc: Global, calls: &[Called<'_>]) -> Result<Option<Vec<usize>>, NoMemory>
     ensures once { IfOk result (λ o. MatchOption o (IsOnce calls.now → ⊥) (λ v. IsOnce calls.now)) }
     ensures order { IfOk result (λ o. MatchOption o ⊤ (λ v. IsOrder calls.now v.items)) }
 {
@@ -25,10 +22,7 @@ pub(crate) fn in_order(
 }
 
 // The slots of the numbers; none where one of the numbers stands twice.
-fn slots(
-    alloc: Global,
-    calls: &[Called<'_>],
-) -> Result<Option<Vec<Option<usize>>>, NoMemory>
+fn slots(alloc: Global, calls: &[Called<'_>]) -> Result<Option<Vec<Option<usize>>>, NoMemory>
     ensures { IfOk result (λ o. MatchOption o (IsOnce calls.now → ⊥) (λ v. AreSlots calls.now (length calls.now) v.items)) }
 {
     let mut slots = empty(alloc, calls.len())?;

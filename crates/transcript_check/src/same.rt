@@ -65,11 +65,7 @@ fn is_edited(
             hits,
             to,
         } => {
-            *at == number
-                && *end == new_end
-                && *from == start
-                && *hits == counts
-                && *to == old_end
+            *at == number && *end == new_end && *from == start && *hits == counts && *to == old_end
         }
         _ => false,
     }

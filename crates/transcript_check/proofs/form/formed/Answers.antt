@@ -23,8 +23,8 @@ returns-clause-form c =
     record {
       version = c.if-transcript-script.false;
       forms = ap (λ (ss : List (List Command)). sessions_have_forms c.args.script.now.version ss c.args.transcript.now.sessions) (sym c.as_slice-sessions.ensures)
-        ∙ ap (sessions_have_forms c.args.script.now.version c.as_slice-sessions.result.now) (sym c.as_slice-replies.ensures)
-        ∙ sym c.sessions_have_forms.ensures ∙ c.if-not-sessions_have_forms.false;
+          ∙ ap (sessions_have_forms c.args.script.now.version c.as_slice-sessions.result.now) (sym c.as_slice-replies.ensures)
+          ∙ sym c.sessions_have_forms.ensures ∙ c.if-not-sessions_have_forms.false;
       once = subst IsOnce calls holds;
       rising = subst (AllByRecursion (λ (rs : List Reply). IsStrictlyIncreasing (numbers rs))) c.as_slice-replies.ensures (c.all_rise.ensures.0 c.if-not-all_rise.false);
     }

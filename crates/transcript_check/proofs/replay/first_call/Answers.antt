@@ -18,6 +18,6 @@ loop-i-preserved c =
       state = made ∙ next_state c.args.plain.now c.loop-i.plain c.args.calls.now c.loop-i.i c.index-calls-order.result found c.loop-i.invariant.state;
       count = omega (arith, counted, c.loop-i.invariant.count);
       agree = below_more (λ (n : ℕ). AgreesAt c.args.version c.args.plain.now c.args.calls.now n) c.loop-i.i c.loop-i.invariant.agree
-        (agrees_at c.args.version c.args.plain.now c.loop-i.plain c.args.calls.now c.loop-i.i c.index-calls-order.result found c.loop-i.invariant.state c.loop-i.invariant.count
-        (c.in_ok-agrees.ensures.agrees.0 c.if-not-branch.false));
+          (agrees_at c.args.version c.args.plain.now c.loop-i.plain c.args.calls.now c.loop-i.i c.index-calls-order.result found c.loop-i.invariant.state c.loop-i.invariant.count
+          (c.in_ok-agrees.ensures.agrees.0 c.if-not-branch.false));
     }
