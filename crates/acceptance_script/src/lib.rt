@@ -9,4 +9,6 @@ mod plain_replay_tests;
 #[cfg(test)]
 mod script_tests;
 #[cfg(test)]
+mod transcript_check_tests;
+#[cfg(test)]
 mod transcripts_tests;

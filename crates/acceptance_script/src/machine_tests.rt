@@ -38,4 +38,5 @@ fn states_laws_of_lawful_transcripts() {
     laws::plain_transcript_is_lawful();
     laws::only_plain_transcript_is_lawful();
     laws::written_history_is_lawful();
+    laws::verdict_is_one();
 }

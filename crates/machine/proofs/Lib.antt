@@ -10,3 +10,4 @@ pub mod OnlyPlain
 pub mod ManySessions
 pub mod SessionRuns
 pub mod TwoSessions
+pub mod OneVerdict

@@ -9,6 +9,8 @@ use Rattle.machine.specs.Answers.{Matches}
 use Rattle.machine.specs.Lawful.{patterns_of, IsLawful}
 use Rattle.machine.specs.Histories.{Event, IsWritten}
 use Rattle.machine.specs.Plain.{plain_transcript, are_live}
+use Rattle.machine.specs.declared.verdict.Verdict.{Verdict}
+use Rattle.machine.specs.FirstFault.{IsVerdict}
 
 -- a call raises the count by one; it leaves the text and the version, or its number becomes the version
 pub record IsNumbered (s t : State) : Type 0 where
@@ -36,3 +38,7 @@ OnlyPlainIsLawful = (script : Script) (opening : List ℕ) (told : List (Option 
 -- a transcript that writes a legal history of many callers down is lawful
 abbrev pub HistoryIsLawful : Type 0
 HistoryIsLawful = (script : Script) (opening : List ℕ) (hands : ℕ) (told : List (Option Matches)) (history : List Event) (t : Transcript) → IsWritten script opening hands told history t → IsLawful script opening told t
+
+-- a transcript is lawful or has a first fault, and never two of these
+abbrev pub VerdictIsOne : Type 0
+VerdictIsOne = (script : Script) (opening : List ℕ) (told : List (Option Matches)) (t : Transcript) (v w : Verdict) → IsVerdict script opening told t v → IsVerdict script opening told t w → v ≡ w

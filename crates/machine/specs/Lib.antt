@@ -2,6 +2,7 @@ pub mod Machine
 pub mod Encodings
 pub mod Answers
 pub mod Lawful
+pub mod FirstFault
 pub mod Plain
 pub mod Laws
 pub mod Bare

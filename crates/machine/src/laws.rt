@@ -1,6 +1,6 @@
 //! Laws of the plain machine and of lawful transcripts, each the contract of a function that does nothing.
 
-ghost use Rattle.machine.specs.Laws.{StepNumbers, PlainIsLawful, OnlyPlainIsLawful, HistoryIsLawful};
+ghost use Rattle.machine.specs.Laws.{StepNumbers, PlainIsLawful, OnlyPlainIsLawful, HistoryIsLawful, VerdictIsOne};
 
 /// Each call raises the count by one; it leaves the text and the version, or its number becomes the version.
 pub fn calls_are_numbered()
@@ -22,4 +22,9 @@ pub fn only_plain_transcript_is_lawful()
 /// own of the history, and each take shows the text at a moment of the history.
 pub fn written_history_is_lawful()
     ensures { HistoryIsLawful }
+{}
+
+/// No transcript has two verdicts: a lawful one has no first fault, and no other has two.
+pub fn verdict_is_one()
+    ensures { VerdictIsOne }
 {}

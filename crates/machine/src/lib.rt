@@ -3,7 +3,7 @@
 //!
 //! The code here is the data types alone, with the laws. The meaning stands in `specs/`: the machine's state
 //! and calls (`Machine`), what they answer and what a command and a read ask (`Answers`), lawful transcripts
-//! (`Lawful`), what a plain string answers to one session (`Plain`), histories of many callers (`Histories`) and the
+//! (`Lawful`), where one first fails (`FirstFault`), what a plain string answers to one session (`Plain`), histories of many callers (`Histories`) and the
 //! laws (`Laws`).
 #![tactic(auto)]
 
@@ -13,9 +13,11 @@ mod reads;
 mod reply;
 mod sequence;
 mod text;
+mod verdict;
 
 pub use command::{BatchEdit, Command, How, Opening, Script};
 pub use reads::{Encoding, Read, ReadAnswer};
 pub use reply::{CallRefusal, HitNumbers, Reply, ReplyPart, Span, Transcript, TranscriptEnd};
 pub use sequence::Sequence;
 pub use text::Text;
+pub use verdict::{Place, Verdict};

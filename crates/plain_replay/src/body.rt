@@ -85,6 +85,13 @@ impl Body {
         self.count
     }
 
+    /// The number of the last call that changed the text.
+    pub(crate) fn version(&self) -> u64
+        ensures { result ≡ self.now.version }
+    {
+        self.version
+    }
+
     /// The allocator.
     pub(crate) fn alloc(&self) -> Global {
         *self.text.allocator()

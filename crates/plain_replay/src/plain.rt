@@ -67,6 +67,13 @@ impl Plain {
         self.body.count()
     }
 
+    /// The number of the last call that changed the text, or 0.
+    pub fn version(&self) -> u64
+        ensures { result ≡ self.now.version }
+    {
+        self.body.version()
+    }
+
     /// Answers a command that is numbered, in the form of a transcript of version 2.
     pub fn step(&mut self, command: &Command) -> Result<Reply, NoMemory>
         requires numbered { IsSome (call_of command.now) }
