@@ -1,7 +1,7 @@
 //! Scripts and transcripts as documents: which bytes are a script, and what a transcript's text is.
 use points::{MarkOrder, NoMemory, Point};
 use script::{
-    CallRefusal, Command, HitNumbers, Opening, ReadAnswer, Reply, ReplyPart, ScriptRefusal,
+    CallRefusal, Command, HitNumbers, How, Opening, Read, ReadAnswer, Reply, ReplyPart, ScriptRefusal,
     ScriptRule, Sequence, Span, Text, Transcript, TranscriptEnd, read_script, transcript_bytes,
 };
 use std::alloc::{AllocError, Global};
@@ -219,9 +219,9 @@ read|{\"do\":\"edit\",\"range\":[0,0,0,0],\"text\":\"\"},{\"do\":\"redo\"}\n\
 1 1 BadShape|{\"do\":\"redo\",\"id\":0}\n\
 read|{\"do\":\"edit\",\"range\":[0,0,0,0],\"text\":\"\"},{\"do\":\"squash\"}\n\
 1 1 BadShape|{\"do\":\"squash\",\"id\":0}\n\
-1 2 BadShape|{\"do\":\"edit\",\"range\":[0,0,0,0],\"text\":\"\"},{\"do\":\"take\",\"snapshot\":0}\n\
-1 2 BadShape|{\"do\":\"edit\",\"range\":[0,0,0,0],\"text\":\"\"},{\"do\":\"release\",\"snapshot\":0}\n\
-1 2 BadShape|{\"do\":\"edit\",\"range\":[0,0,0,0],\"text\":\"\"},{\"do\":\"read\",\"snapshot\":0,\"reads\":[]}\n\
+read|{\"do\":\"edit\",\"range\":[0,0,0,0],\"text\":\"\"},{\"do\":\"take\",\"snapshot\":0}\n\
+1 2 UnknownSnapshot|{\"do\":\"edit\",\"range\":[0,0,0,0],\"text\":\"\"},{\"do\":\"release\",\"snapshot\":0}\n\
+1 2 UnknownSnapshot|{\"do\":\"edit\",\"range\":[0,0,0,0],\"text\":\"\"},{\"do\":\"read\",\"snapshot\":0,\"reads\":[]}\n\
 1 2 BadShape|{\"do\":\"edit\",\"range\":[0,0,0,0],\"text\":\"\"},{\"do\":\"send\",\"snapshot\":-1,\"reads\":[]}\n\
 1 2 BadNumber|{\"do\":\"edit\",\"range\":[0,0,0,0],\"text\":\"\"},{\"do\":\"mark\",\"id\":-1,\"range\":[1,0,0,0],\"exclusive\":true}\n\
 read|{\"do\":\"edit\",\"range\":[0,0,0,0],\"text\":\"\"},{\"do\":\"mark\",\"id\":4294967295,\"range\":[0,0,0,0],\"exclusive\":true}\n\
@@ -240,14 +240,14 @@ read|{\"do\":\"edit\",\"range\":[0,0,0,0],\"text\":\"\"},{\"do\":\"exclusive\",\
 read|{\"do\":\"edit\",\"range\":[0,0,0,0],\"text\":\"\"},{\"do\":\"range\",\"id\":0}\n\
 1 1 BadNumber|{\"do\":\"range\",\"id\":-0}\n\
 1 1 BadShape|{\"do\":\"range\",\"id\":-1,\"exclusive\":true}\n\
-1 2 BadShape|{\"do\":\"edit\",\"range\":[0,0,0,0],\"text\":\"\"},{\"do\":\"marks\",\"how\":\"containing\",\"range\":[0,0,0,0]}\n\
+read|{\"do\":\"edit\",\"range\":[0,0,0,0],\"text\":\"\"},{\"do\":\"marks\",\"how\":\"containing\",\"range\":[0,0,0,0]}\n\
 read|{\"do\":\"edit\",\"range\":[0,0,0,0],\"text\":\"\"},{\"do\":\"compare\",\"a\":0,\"b\":0}\n\
 1 1 BadNumber|{\"do\":\"compare\",\"a\":0,\"b\":-1}\n\
 1 1 BadNumber|{\"do\":\"compare\",\"a\":1e0,\"b\":0}\n\
 1 1 BadShape|{\"do\":\"compare\",\"a\":-1,\"b\":null}\n\
 1 1 BadShape|{\"do\":\"compare\",\"a\":0,\"id\":0}\n\
-1 2 BadShape|{\"do\":\"edit\",\"range\":[0,0,0,0],\"text\":\"\"},{\"do\":\"watch\",\"id\":0}\n\
-1 2 BadShape|{\"do\":\"edit\",\"range\":[0,0,0,0],\"text\":\"\"},{\"do\":\"unwatch\",\"id\":0}\n\
+read|{\"do\":\"edit\",\"range\":[0,0,0,0],\"text\":\"\"},{\"do\":\"watch\",\"id\":0}\n\
+read|{\"do\":\"edit\",\"range\":[0,0,0,0],\"text\":\"\"},{\"do\":\"unwatch\",\"id\":0}\n\
 1 2 BadShape|{\"do\":\"edit\",\"range\":[0,0,0,0],\"text\":\"\"},{\"do\":\"batch\",\"edits\":[]}\n\
 1 1 BadShape|{\"do\":\"text\",\"range\":[1,0,0,0],\"limit\":\"x\"}\n\
 1 1 BadShape|{\"do\":\"text\",\"range\":[0,0,0],\"limit\":65537}\n\
@@ -266,6 +266,36 @@ read|{\"do\":\"edit\",\"range\":[0,0,0,0],\"text\":\"\"},{\"do\":\"compare\",\"a
 #[test]
 fn places_faults_of_commands(rt: HostRuntime) {
     for row in COMMANDS.split('\n') {
+        assert!(rt; commands_hold(rt.alloc(), row), "{row}");
+    }
+}
+
+// Finds of marks and watchers; a snapshot that is read, ended and taken again; numbers that aren't live, are live already
+// or aren't whole; and two rules at one place, where the lower one is told.
+const SNAPSHOTS: &str = "\
+1 1 BadShape|{\"do\":\"marks\",\"how\":\"inside\",\"range\":[0,0,0,0]}\n\
+1 1 BadNumber|{\"do\":\"marks\",\"how\":\"ending_at\",\"range\":[1,0,0,0]}\n\
+1 1 BadNumber|{\"do\":\"watch\",\"id\":4294967296}\n\
+1 1 BadShape|{\"do\":\"unwatch\",\"id\":null}\n\
+read|{\"do\":\"take\",\"snapshot\":7},{\"do\":\"read\",\"snapshot\":7,\"reads\":[{\"get\":\"size\"},{\"get\":\"text\",\"range\":[0,0,9,9],\"limit\":65536},{\"get\":\"find\",\"needle\":\"b\",\"limit\":1000},{\"get\":\"pattern\",\"pattern\":\"\",\"limit\":0}]},{\"do\":\"release\",\"snapshot\":7},{\"do\":\"take\",\"snapshot\":7}\n\
+1 3 UnknownSnapshot|{\"do\":\"take\",\"snapshot\":7},{\"do\":\"release\",\"snapshot\":7},{\"do\":\"read\",\"snapshot\":7,\"reads\":[]}\n\
+1 2 SnapshotTaken|{\"do\":\"take\",\"snapshot\":7},{\"do\":\"take\",\"snapshot\":7}\n\
+1 2 BadNumber|{\"do\":\"take\",\"snapshot\":7},{\"do\":\"take\",\"snapshot\":7.0}\n\
+1 2 BadNumber|{\"do\":\"take\",\"snapshot\":7},{\"do\":\"take\",\"snapshot\":-0}\n\
+1 2 UnknownSnapshot|{\"do\":\"take\",\"snapshot\":7},{\"do\":\"release\",\"snapshot\":7e0}\n\
+1 2 UnknownSnapshot|{\"do\":\"take\",\"snapshot\":7},{\"do\":\"read\",\"snapshot\":7.0,\"reads\":[]}\n\
+1 2 UnknownSnapshot|{\"do\":\"take\",\"snapshot\":7},{\"do\":\"read\",\"snapshot\":8,\"reads\":[{\"get\":\"find\",\"needle\":\"\",\"limit\":1001}]}\n\
+1 2 BadShape|{\"do\":\"take\",\"snapshot\":7},{\"do\":\"read\",\"snapshot\":8,\"reads\":[{\"get\":\"find\",\"needle\":\"\",\"limit\":1001},null]}\n\
+1 2 BadNumber|{\"do\":\"take\",\"snapshot\":7},{\"do\":\"read\",\"snapshot\":7,\"reads\":[{\"get\":\"find\",\"needle\":\"\",\"limit\":1001}]}\n\
+1 2 EmptyNeedle|{\"do\":\"take\",\"snapshot\":7},{\"do\":\"read\",\"snapshot\":7,\"reads\":[{\"get\":\"size\"},{\"get\":\"find\",\"needle\":\"\",\"limit\":1000}]}\n\
+1 2 BadShape|{\"do\":\"take\",\"snapshot\":7},{\"do\":\"read\",\"snapshot\":7,\"reads\":[{\"get\":\"save\",\"name\":\"a\",\"encoding\":\"utf8\"}]}\n\
+1 2 BadShape|{\"do\":\"take\",\"snapshot\":7},{\"do\":\"read\",\"snapshot\":7,\"reads\":[{\"get\":\"pattern\",\"needle\":\"a\",\"limit\":0}]}\n\
+1 2 BadNumber|{\"do\":\"take\",\"snapshot\":7},{\"do\":\"read\",\"snapshot\":7,\"reads\":[{\"get\":\"text\",\"range\":[0,0,0,0],\"limit\":65537}]}\n\
+1 2 BadShape|{\"do\":\"take\",\"snapshot\":7},{\"do\":\"read\",\"snapshot\":7,\"reads\":{}}";
+
+#[test]
+fn places_faults_of_snapshots(rt: HostRuntime) {
+    for row in SNAPSHOTS.split('\n') {
         assert!(rt; commands_hold(rt.alloc(), row), "{row}");
     }
 }
@@ -358,6 +388,65 @@ fn counts_the_commands_of_a_script(rt: HostRuntime) {
     }
 }
 
+const TWO_READS: &str =
+    "{\"do\":\"take\",\"snapshot\":0},{\"do\":\"read\",\"snapshot\":0,\"reads\":[{\"get\":\"size\"},{\"get\":\"size\"}]}";
+
+const WATCH: &str = "{\"do\":\"watch\",\"id\":0}";
+
+const FIND: &str = "{\"do\":\"marks\",\"how\":\"starting_at\",\"range\":[0,0,0,0]}";
+
+// Each read of a snapshot counts as a text does; watchers and finds of marks have limits of their own.
+#[test]
+fn counts_reads_and_watchers(rt: HostRuntime) {
+    let rows = [
+        (LOOK, 4_094, TWO_READS, "read"),
+        (LOOK, 4_095, TWO_READS, "1 4097 TooMany"),
+        (WATCH, 63, WATCH, "read"),
+        (WATCH, 64, WATCH, "1 65 TooMany"),
+        (FIND, 255, FIND, "read"),
+        (FIND, 256, FIND, "1 257 TooMany"),
+    ];
+    for (command, count, last, wanted) in rows {
+        assert!(rt;
+            repeated_end(rt.alloc(), command, count, last, wanted),
+            "{wanted}"
+        );
+    }
+}
+
+// This many snapshots, with numbers from 0 on, and a command behind them.
+fn takes(alloc: Global, count: u32, last: &str) -> Result<String, AllocError> {
+    let mut commands = String::new(alloc);
+    for number in 0..count {
+        let take = format!(in alloc; "{{\"do\":\"take\",\"snapshot\":{number}}},")?;
+        commands.push_str(take.as_str())?;
+    }
+    commands.push_str(last)?;
+    Ok(commands)
+}
+
+fn takes_end(alloc: Global, count: u32, last: &str, wanted: &str) -> bool {
+    match takes(alloc, count, last) {
+        Ok(commands) => commands_end(alloc, commands.as_str(), wanted),
+        Err(_) => false,
+    }
+}
+
+// There are 32 hands: one snapshot more is too much, whatever its number is.
+#[test]
+fn counts_the_snapshots_that_are_live(rt: HostRuntime) {
+    let rows = [
+        (31, "{\"do\":\"take\",\"snapshot\":31}", "read"),
+        (32, "{\"do\":\"take\",\"snapshot\":32}", "1 33 TooMany"),
+        (32, "{\"do\":\"take\",\"snapshot\":0}", "1 33 TooMany"),
+        (32, "{\"do\":\"take\",\"snapshot\":-1}", "1 33 TooMany"),
+        (32, "{\"do\":\"release\",\"snapshot\":0},{\"do\":\"take\",\"snapshot\":0}", "read"),
+    ];
+    for (count, last, wanted) in rows {
+        assert!(rt; takes_end(rt.alloc(), count, last, wanted), "{wanted}");
+    }
+}
+
 // A script that opens with this many units, and whose one command has a fault.
 fn opening_with(alloc: Global, units: usize, command: &str) -> Result<String, AllocError> {
     let mut document = String::new(alloc);
@@ -439,6 +528,87 @@ fn reads_hello(alloc: Global) -> bool {
 #[test]
 fn reads_each_field_of_a_script(rt: HostRuntime) {
     assert!(rt; reads_hello(rt.alloc()));
+}
+
+// A find of marks, a watch, and a snapshot that is taken, read in each way and ended.
+const EACH: &[u8] =
+    b"{\"version\":1,\"open\":{\"text\":\"\"},\"sessions\":[[{\"do\":\"marks\",\"how\":\"contained_in\",\"range\":[1,2,3,4]},{\"do\":\"watch\",\"id\":5},{\"do\":\"unwatch\",\"id\":6},{\"do\":\"take\",\"snapshot\":7},{\"do\":\"read\",\"snapshot\":7,\"reads\":[{\"get\":\"size\"},{\"get\":\"text\",\"range\":[1,2,3,4],\"limit\":8},{\"get\":\"find\",\"needle\":\"a\",\"limit\":9},{\"get\":\"pattern\",\"pattern\":\"b\",\"limit\":10}]},{\"do\":\"release\",\"snapshot\":7}]]}";
+
+fn is_marks(command: &Command) -> bool {
+    match command {
+        Command::Marks { how, range } => *how == How::ContainedIn
+            && range.start == point(1, 2)
+            && range.end == point(3, 4),
+        _ => false,
+    }
+}
+
+// The word of a command with one number, and the number.
+fn numbered(command: &Command) -> (&'static str, u32) {
+    match command {
+        Command::Watch { id } => ("watch", *id),
+        Command::Unwatch { id } => ("unwatch", *id),
+        Command::Take { snapshot } => ("take", *snapshot),
+        Command::Read { snapshot, .. } => ("read", *snapshot),
+        Command::Release { snapshot } => ("release", *snapshot),
+        _ => ("", 0),
+    }
+}
+
+fn is_numbered(command: &Command, word: &str, number: u32) -> bool {
+    let found = numbered(command);
+    found.0 == word && found.1 == number
+}
+
+// The text that a read has, and its limit.
+fn is_read(read: &Read, expected: &str, wanted: u32) -> bool {
+    match read {
+        Read::Size => expected == "size" && wanted == 0,
+        Read::Text { range, limit } => expected == "text"
+            && range.start == point(1, 2)
+            && range.end == point(3, 4)
+            && *limit == wanted,
+        Read::Find { needle, limit } => needle.as_str() == expected && *limit == wanted,
+        Read::Pattern { pattern, limit } => pattern.as_str() == expected && *limit == wanted,
+        Read::Save { .. } => false,
+    }
+}
+
+fn are_reads(command: &Command) -> bool {
+    match command {
+        Command::Read { reads, .. } => {
+            let reads = reads.as_slice();
+            reads.len() == 4
+                && is_read(&reads[0], "size", 0)
+                && is_read(&reads[1], "text", 8)
+                && is_read(&reads[2], "a", 9)
+                && is_read(&reads[3], "b", 10)
+        }
+        _ => false,
+    }
+}
+
+fn is_each(commands: &[Command]) -> bool {
+    commands.len() == 6
+        && is_marks(&commands[0])
+        && is_numbered(&commands[1], "watch", 5)
+        && is_numbered(&commands[2], "unwatch", 6)
+        && is_numbered(&commands[3], "take", 7)
+        && is_numbered(&commands[4], "read", 7)
+        && are_reads(&commands[4])
+        && is_numbered(&commands[5], "release", 7)
+}
+
+fn reads_each(alloc: Global) -> bool {
+    match read_script(alloc, EACH) {
+        Ok(script) => is_each(script.sessions.as_slice()[0].as_slice()),
+        Err(_) => false,
+    }
+}
+
+#[test]
+fn reads_each_field_of_marks_and_snapshots(rt: HostRuntime) {
+    assert!(rt; reads_each(rt.alloc()));
 }
 
 // ---- transcripts

@@ -12,7 +12,6 @@ use Rattle.script.specs.Limits.{IsWithinLimits}
 use Rattle.script.specs.Rules.{Fault, built_place}
 use Rattle.script.specs.ScriptDocument.{reading, script_of, document, script_in, script_place, IsRefusalAt}
 use Rattle.script.proofs.KeyOrder.{document_in_order}
-use Rattle.script.proofs.LimitLemmas.{within_limits}
 use Rattle.script.proofs.RuleLemmas.{read_within}
 use Rattle.serde_json.specs.Data.{Data}
 use Rattle.serde_json.specs.Read.{read}
@@ -37,7 +36,7 @@ script_read bytes d (Ok s) is e = rw is e
 script_read bytes d (Err refusal) is e = tt
 
 pub limits_kept : (bytes : List ℕ) (d : Data) (r : Result Script ScriptRefusal) → document bytes ≡ Some d → IfOk r (λ s. script_of d ≡ Some s) → IfOk r (λ s. IsWithinLimits s)
-limits_kept bytes d (Ok s) is e = let within = read_within d s (document_in_order bytes d is) e in within_limits s within.0 within.1
+limits_kept bytes d (Ok s) is e = read_within d s (document_in_order bytes d is) e
 limits_kept bytes d (Err refusal) is e = tt
 
 no_place : (o : Option Fault) (p : Option Script) (s : Script) → cond (is_some o) None p ≡ Some s → o ≡ None

@@ -8,7 +8,9 @@ pub mod ScriptAgain
 pub mod ScriptExact
 pub mod RuleLemmas
 pub mod RuleRows
-pub mod CommandPlaces
+pub mod Shaped
+pub mod ReadShape
+pub mod CommandTests
 pub mod DocumentPlaces
 pub mod CommandLoop
 pub mod Documents

@@ -1,42 +1,32 @@
 -- The scripts that are read: of what is built, their numbers within their limits.
-use Rattle.std.proofs.Common.{◌≡◌, ◌≤◌, List, [], ◌∷◌, length, Bool, true, is_some, refl}
+use Rattle.std.proofs.Common.{◌≡◌, List, [], ◌∷◌, length, Bool, true, is_some, refl}
 use Rattle.std.specs.List.{AllByRecursion, list_all}
 use Rattle.std.proofs.lemmas.Bool.{and_from, eq-eqb}
-use Rattle.points.specs.declared.limits.TheConstants.{MAX_COORD}
-use Rattle.points.specs.declared.range.Range.{Range}
-use Rattle.points.specs.Point.{IsWithin}
 use Rattle.machine.specs.declared.command.Command.{Command}
 use Rattle.machine.specs.declared.command.Command.TheVariants as command
 use Rattle.machine.specs.declared.command.Script.{Script}
+use Rattle.machine.specs.declared.reads.Read.{Read}
+use Rattle.machine.specs.declared.reads.Read.TheVariants as read
 use Rattle.machine.specs.Answers.{opening_text}
-use Rattle.script.specs.Limits.{has_built_word}
-use Rattle.script.specs.declared.limits.TheConstants.{MAX_SHOWN, MAX_ID}
+use Rattle.script.specs.Limits.{has_built_read, has_built_word, IsReadableRead, IsReadable}
 use Rattle.script.specs.ScriptValue.{is_built}
-
--- a range within the greatest row and column
-pub record IsRangeWithin (r : Range) : Type 0 where
-  pub start : IsWithin MAX_COORD r.start
-  pub end : IsWithin MAX_COORD r.end
-
--- a command that is built, its numbers within their limits
-abbrev pub IsReadable : Command → Type 0
-IsReadable (command.Edit range text) = IsRangeWithin range
-IsReadable (command.Text range limit) = IsRangeWithin range × (limit ≤ MAX_SHOWN)
-IsReadable command.Undo = Unit {0}
-IsReadable command.Redo = Unit {0}
-IsReadable command.Squash = Unit {0}
-IsReadable (command.Unmark id) = id ≤ MAX_ID
-IsReadable (command.Range id) = id ≤ MAX_ID
-IsReadable (command.Exclusive id value) = id ≤ MAX_ID
-IsReadable (command.Compare a b) = (a ≤ MAX_ID) × (b ≤ MAX_ID)
-IsReadable (command.Mark id range exclusive) = (id ≤ MAX_ID) × IsRangeWithin range
-IsReadable c = ⊥
 
 pub record IsReadableScript (s : Script) : Type 0 where
   pub version : s.version ≡ 1
   pub one : length s.sessions ≡ 1
   pub opening : is_some (opening_text s.opening) ≡ true
   pub commands : AllByRecursion (AllByRecursion IsReadable) s.sessions
+
+all_hold : {A : Type 0} (P : A → Type 0) (test : A → Bool) → ((x : A) → P x → test x ≡ true) → (xs : List A) → AllByRecursion P xs → list_all test xs ≡ true
+all_hold P test each [] h = refl
+all_hold P test each (x ∷ xs) h = and_from (test x) (list_all test xs) (each x h.0) (all_hold P test each xs h.1)
+
+read_built : (r : Read) → IsReadableRead r → has_built_read r ≡ true
+read_built read.Size h = refl
+read_built (read.Text range limit) h = refl
+read_built (read.Find needle limit) h = refl
+read_built (read.Pattern pattern limit) h = refl
+read_built (read.Save name encoding) h = absurd h
 
 pub command_built : (c : Command) → IsReadable c → has_built_word c ≡ true
 command_built (command.Edit range text) h = refl
@@ -49,15 +39,17 @@ command_built (command.Range id) h = refl
 command_built (command.Exclusive id value) h = refl
 command_built (command.Compare a c) h = refl
 command_built (command.Mark id range exclusive) h = refl
+command_built (command.Marks how range) h = refl
+command_built (command.Watch id) h = refl
+command_built (command.Unwatch id) h = refl
+command_built (command.Take snapshot) h = refl
+command_built (command.Read snapshot reads) h = all_hold IsReadableRead has_built_read read_built reads h.1
+command_built (command.Release snapshot) h = refl
 command_built c h = absurd h
 
 session_built : (cs : List Command) → AllByRecursion IsReadable cs → AllByRecursion (λ c. has_built_word c ≡ true) cs
 session_built [] h = tt
 session_built (c ∷ cs) h = (command_built c h.0, session_built cs h.1)
-
-all_hold : {A : Type 0} (P : A → Type 0) (test : A → Bool) → ((x : A) → P x → test x ≡ true) → (xs : List A) → AllByRecursion P xs → list_all test xs ≡ true
-all_hold P test each [] h = refl
-all_hold P test each (x ∷ xs) h = and_from (test x) (list_all test xs) (each x h.0) (all_hold P test each xs h.1)
 
 pub each_built : (sessions : List (List Command)) → AllByRecursion (AllByRecursion IsReadable) sessions → AllByRecursion (λ cs. AllByRecursion (λ c. has_built_word c ≡ true) cs) sessions
 each_built [] h = tt

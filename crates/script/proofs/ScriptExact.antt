@@ -2,6 +2,7 @@
 use Rattle.std.proofs.Common.{◌≡◌, ◌+◌, ◌≤◌, ℕ, List, [], ◌∷◌, length, map, Bool, true, false, cond, Option, Some, None, option_map, option_and_then, refl, sym, ap, ap₂, subst, ◌∙◌, ◌⊎◌, inl, inr, arith}
 use Rattle.std.specs.Prelude.{codes, is_some, nat_le, ◌==◌, ◌&&◌}
 use Rattle.std.specs.List.{AllByRecursion}
+use Rattle.std.specs.Str.{bytes_eq}
 use Rattle.std.proofs.lemmas.Bool.{leb-true, eqb-true, and_parts, true≢false}
 use Rattle.std.proofs.lemmas.Option.{option_and_then_some, cond_some, none-some, same_Some}
 use Rattle.std.proofs.lemmas.Slice.Eq.{bytes_eq-Decides}
@@ -10,21 +11,26 @@ use Rattle.points.specs.declared.range.Range.{Range}
 use Rattle.points.specs.Point.{point_le, IsWithin}
 use Rattle.machine.specs.declared.command.Command.{Command}
 use Rattle.machine.specs.declared.command.Command.TheVariants as command
+use Rattle.machine.specs.declared.command.How.{How}
+use Rattle.machine.specs.declared.command.How.TheVariants as how
+use Rattle.machine.specs.declared.reads.Read.{Read}
+use Rattle.machine.specs.declared.reads.Read.TheVariants as read
 use Rattle.machine.specs.declared.command.Opening.{Opening}
 use Rattle.machine.specs.declared.command.Opening.TheVariants as opening
 use Rattle.machine.specs.declared.command.Script.{Script}
 use Rattle.points.specs.declared.limits.TheConstants.{MAX_COORD}
 use Rattle.machine.specs.Answers.{opening_text}
-use Rattle.script.specs.declared.limits.TheConstants.{MAX_SHOWN, MAX_ID}
-use Rattle.script.specs.ScriptDocument.{edit_of, look_of, ranged_of, bare_of, unmark_of, mark_range_of, exclusive_of, compare_of, mark_of, on_marks_of, on_text_of, command_of, commands_of, session_of, sessions_of, opening_of, reading}
+use Rattle.script.specs.Limits.{IsRangeWithin, IsReadableRead, IsReadable}
+use Rattle.script.specs.declared.limits.TheConstants.{MAX_SHOWN, MAX_HITS, MAX_ID}
+use Rattle.script.specs.ScriptDocument.{edit_of, look_of, ranged_of, bare_of, unmark_of, mark_range_of, exclusive_of, compare_of, mark_of, how_of, marks_of, watch_of, unwatch_of, on_marks_of, size_of, look_read_of, find_of, pattern_of, read_of, reads_of, take_of, listed_reads, read_command_of, release_of, on_snapshots_of, on_text_of, command_of, commands_of, session_of, sessions_of, opening_of, reading}
 use Rattle.script.specs.Parts.{member_count, item_count, string_in, whole_of, whole_in, flag_in, coordinate, point_from, range_by, range_between, range_of, range_in, is_word}
-use Rattle.script.specs.Rules.{is_on_marks, is_version_one, is_one}
-use Rattle.script.specs.ScriptValue.{range_value, command_value, session_value, opening_value, script_value}
+use Rattle.script.specs.Rules.{is_on_marks, is_on_snapshots, is_version_one, is_one}
+use Rattle.script.specs.ScriptValue.{how_word, read_value, range_value, command_value, session_value, opening_value, script_value}
 use Rattle.script.specs.TranscriptDocument.{whole, list_value}
 use Rattle.script.proofs.KeyLemmas.{Ascend, all_keys, two_members, three_members, four_members, one_member}
 use Rattle.script.proofs.KeyOrder.{IsInKeyOrder, ItemsInKeyOrder}
 use Rattle.script.proofs.LimitLemmas.{behind_map}
-use Rattle.script.proofs.Readable.{IsRangeWithin, IsReadable, IsReadableScript}
+use Rattle.script.proofs.Readable.{IsReadableScript}
 use Rattle.serde_json.specs.Data.{Data, null, boolean, number, string, array, object, unsigned, negative, float, Items, no_items, item, no_members, member}
 use Rattle.serde_json.specs.View.{items_of}
 use Rattle.serde_json.specs.Find.{get, at, as_str, as_bool, as_array, as_number, as_u64}
@@ -58,6 +64,14 @@ string_exact (number n) s e = absurd (none-some s e)
 string_exact (string t) s e = ap string (same_Some t s e)
 string_exact (array ds) s e = absurd (none-some s e)
 string_exact (object ms) s e = absurd (none-some s e)
+
+pub array_exact : (d : Data) (ds : Items) → as_array d ≡ Some ds → d ≡ array ds
+array_exact null ds e = absurd (none-some ds e)
+array_exact (boolean b) ds e = absurd (none-some ds e)
+array_exact (number n) ds e = absurd (none-some ds e)
+array_exact (string s) ds e = absurd (none-some ds e)
+array_exact (array es) ds e = ap array (same_Some es ds e)
+array_exact (object ms) ds e = absurd (none-some ds e)
 
 -- ---- lists and objects of a known size
 
@@ -243,9 +257,12 @@ pub mark_cases : (d : Data) (c : Command) (P : Type 0) → on_marks_of d ≡ Som
     → (string_in (codes "do") d ≡ Some (codes "exclusive") → exclusive_of d ≡ Some c → P)
     → (string_in (codes "do") d ≡ Some (codes "compare") → compare_of d ≡ Some c → P)
     → (string_in (codes "do") d ≡ Some (codes "mark") → mark_of d ≡ Some c → P)
+    → (string_in (codes "do") d ≡ Some (codes "marks") → marks_of d ≡ Some c → P)
+    → (string_in (codes "do") d ≡ Some (codes "watch") → watch_of d ≡ Some c → P)
+    → (string_in (codes "do") d ≡ Some (codes "unwatch") → unwatch_of d ≡ Some c → P)
     → P
 unfolding on_marks_of
-mark_cases d c P e k1 k2 k3 k4 k5 =
+mark_cases d c P e k1 k2 k3 k4 k5 k6 k7 k8 =
     elim (either_some (is_word (string_in (codes "do") d) (codes "unmark")) (unmark_of d) _ c e) [
       | inl is ↦ k1 (word_exact _ _ is.0) is.1
       | inr rest1 ↦ elim (either_some (is_word (string_in (codes "do") d) (codes "range")) (mark_range_of d) _ c rest1) [
@@ -254,7 +271,16 @@ mark_cases d c P e k1 k2 k3 k4 k5 =
           | inl is ↦ k3 (word_exact _ _ is.0) is.1
           | inr rest3 ↦ elim (either_some (is_word (string_in (codes "do") d) (codes "compare")) (compare_of d) _ c rest3) [
             | inl is ↦ k4 (word_exact _ _ is.0) is.1
-            | inr rest4 ↦ let is = test_some (is_word (string_in (codes "do") d) (codes "mark")) (mark_of d) c rest4 in k5 (word_exact _ _ is.0) is.1
+            | inr rest4 ↦ elim (either_some (is_word (string_in (codes "do") d) (codes "mark")) (mark_of d) _ c rest4) [
+              | inl is ↦ k5 (word_exact _ _ is.0) is.1
+              | inr rest5 ↦ elim (either_some (is_word (string_in (codes "do") d) (codes "marks")) (marks_of d) _ c rest5) [
+                | inl is ↦ k6 (word_exact _ _ is.0) is.1
+                | inr rest6 ↦ elim (either_some (is_word (string_in (codes "do") d) (codes "watch")) (watch_of d) _ c rest6) [
+                  | inl is ↦ k7 (word_exact _ _ is.0) is.1
+                  | inr rest7 ↦ let is = test_some (is_word (string_in (codes "do") d) (codes "unwatch")) (unwatch_of d) c rest7 in k8 (word_exact _ _ is.0) is.1
+                ]
+              ]
+            ]
           ]
         ]
       ]
@@ -290,25 +316,58 @@ four_of a b c k (object ms) up sorted n h i j l =
     let found = four_members a b c k ms (all_keys (a ∷ b ∷ c ∷ k ∷ []) ms up sorted.0 (h, (i, (j, (l, tt)))) (sym n)) in
     (found.0, found.1, found.2, found.3, ap object found.4)
 
+-- a command with one id, and one with the number of a snapshot
+id_exact : (word : List ℕ) (d : Data) (n : ℕ) → IsInKeyOrder d → (member_count d == 2) ≡ true → string_in (codes "do") d ≡ Some word → whole_in MAX_ID (codes "id") d ≡ Some n
+    → (d ≡ object (member (codes "do") (string word) (member (codes "id") (whole n) no_members))) × (n ≤ MAX_ID)
+id_exact word d n sorted two is n_is =
+    let p = two_of (codes "do") (codes "id") d ((refl, tt), (tt, tt)) sorted (eqb-true (member_count d) 2 two) (there as_str _ _ is) (there (whole_of MAX_ID) _ _ n_is) in
+    let x = string_exact p.0 word (subst (λ v. string_in (codes "do") v ≡ Some word) p.2 is) in
+    let y = whole_exact MAX_ID n p.1 (subst (λ v. whole_in MAX_ID (codes "id") v ≡ Some n) p.2 n_is) in
+    (p.2 ∙ cc (x, y.0), y.1)
+
+snapshot_exact : (word : List ℕ) (d : Data) (n : ℕ) → IsInKeyOrder d → (member_count d == 2) ≡ true → string_in (codes "do") d ≡ Some word → whole_in MAX_ID (codes "snapshot") d ≡ Some n
+    → (d ≡ object (member (codes "do") (string word) (member (codes "snapshot") (whole n) no_members))) × (n ≤ MAX_ID)
+snapshot_exact word d n sorted two is n_is =
+    let p = two_of (codes "do") (codes "snapshot") d ((refl, tt), (tt, tt)) sorted (eqb-true (member_count d) 2 two) (there as_str _ _ is) (there (whole_of MAX_ID) _ _ n_is) in
+    let x = string_exact p.0 word (subst (λ v. string_in (codes "do") v ≡ Some word) p.2 is) in
+    let y = whole_exact MAX_ID n p.1 (subst (λ v. whole_in MAX_ID (codes "snapshot") v ≡ Some n) p.2 n_is) in
+    (p.2 ∙ cc (x, y.0), y.1)
+
 unmark_mark_exact : (d : Data) (c : Command) → IsInKeyOrder d → string_in (codes "do") d ≡ Some (codes "unmark") → unmark_of d ≡ Some c → (d ≡ command_value c) × IsReadable c
 unfolding unmark_of
 unmark_mark_exact d c sorted word e =
     let t = test_some (member_count d == 2) _ c e in
-    behind_map command.Unmark (whole_in MAX_ID (codes "id") d) c t.1 (λ n n_is is.
-    let p = two_of (codes "do") (codes "id") d ((refl, tt), (tt, tt)) sorted (eqb-true (member_count d) 2 t.0) (there as_str _ _ word) (there (whole_of MAX_ID) _ _ n_is) in
-    let x = string_exact p.0 (codes "unmark") (subst (λ v. string_in (codes "do") v ≡ Some (codes "unmark")) p.2 word) in
-    let y = whole_exact MAX_ID n p.1 (subst (λ v. whole_in MAX_ID (codes "id") v ≡ Some n) p.2 n_is) in
-    subst (λ v. (d ≡ command_value v) × IsReadable v) is (p.2 ∙ cc (x, y.0), y.1))
+    behind_map command.Unmark (whole_in MAX_ID (codes "id") d) c t.1 (λ n n_is is. subst (λ v. (d ≡ command_value v) × IsReadable v) is (id_exact (codes "unmark") d n sorted t.0 word n_is))
 
 range_mark_exact : (d : Data) (c : Command) → IsInKeyOrder d → string_in (codes "do") d ≡ Some (codes "range") → mark_range_of d ≡ Some c → (d ≡ command_value c) × IsReadable c
 unfolding mark_range_of
 range_mark_exact d c sorted word e =
     let t = test_some (member_count d == 2) _ c e in
-    behind_map command.Range (whole_in MAX_ID (codes "id") d) c t.1 (λ n n_is is.
-    let p = two_of (codes "do") (codes "id") d ((refl, tt), (tt, tt)) sorted (eqb-true (member_count d) 2 t.0) (there as_str _ _ word) (there (whole_of MAX_ID) _ _ n_is) in
-    let x = string_exact p.0 (codes "range") (subst (λ v. string_in (codes "do") v ≡ Some (codes "range")) p.2 word) in
-    let y = whole_exact MAX_ID n p.1 (subst (λ v. whole_in MAX_ID (codes "id") v ≡ Some n) p.2 n_is) in
-    subst (λ v. (d ≡ command_value v) × IsReadable v) is (p.2 ∙ cc (x, y.0), y.1))
+    behind_map command.Range (whole_in MAX_ID (codes "id") d) c t.1 (λ n n_is is. subst (λ v. (d ≡ command_value v) × IsReadable v) is (id_exact (codes "range") d n sorted t.0 word n_is))
+
+watch_exact : (d : Data) (c : Command) → IsInKeyOrder d → string_in (codes "do") d ≡ Some (codes "watch") → watch_of d ≡ Some c → (d ≡ command_value c) × IsReadable c
+unfolding watch_of
+watch_exact d c sorted word e =
+    let t = test_some (member_count d == 2) _ c e in
+    behind_map command.Watch (whole_in MAX_ID (codes "id") d) c t.1 (λ n n_is is. subst (λ v. (d ≡ command_value v) × IsReadable v) is (id_exact (codes "watch") d n sorted t.0 word n_is))
+
+unwatch_exact : (d : Data) (c : Command) → IsInKeyOrder d → string_in (codes "do") d ≡ Some (codes "unwatch") → unwatch_of d ≡ Some c → (d ≡ command_value c) × IsReadable c
+unfolding unwatch_of
+unwatch_exact d c sorted word e =
+    let t = test_some (member_count d == 2) _ c e in
+    behind_map command.Unwatch (whole_in MAX_ID (codes "id") d) c t.1 (λ n n_is is. subst (λ v. (d ≡ command_value v) × IsReadable v) is (id_exact (codes "unwatch") d n sorted t.0 word n_is))
+
+take_exact : (d : Data) (c : Command) → IsInKeyOrder d → string_in (codes "do") d ≡ Some (codes "take") → take_of d ≡ Some c → (d ≡ command_value c) × IsReadable c
+unfolding take_of
+take_exact d c sorted word e =
+    let t = test_some (member_count d == 2) _ c e in
+    behind_map command.Take (whole_in MAX_ID (codes "snapshot") d) c t.1 (λ n n_is is. subst (λ v. (d ≡ command_value v) × IsReadable v) is (snapshot_exact (codes "take") d n sorted t.0 word n_is))
+
+release_exact : (d : Data) (c : Command) → IsInKeyOrder d → string_in (codes "do") d ≡ Some (codes "release") → release_of d ≡ Some c → (d ≡ command_value c) × IsReadable c
+unfolding release_of
+release_exact d c sorted word e =
+    let t = test_some (member_count d == 2) _ c e in
+    behind_map command.Release (whole_in MAX_ID (codes "snapshot") d) c t.1 (λ n n_is is. subst (λ v. (d ≡ command_value v) × IsReadable v) is (snapshot_exact (codes "release") d n sorted t.0 word n_is))
 
 exclusive_exact : (d : Data) (c : Command) → IsInKeyOrder d → string_in (codes "do") d ≡ Some (codes "exclusive") → exclusive_of d ≡ Some c → (d ≡ command_value c) × IsReadable c
 unfolding exclusive_of
@@ -349,6 +408,133 @@ mark_exact d c sorted word e =
     let w = range_exact p.3 r (subst (λ v. range_in v ≡ Some r) p.4 r_is) in
     subst (λ v. (d ≡ command_value v) × IsReadable v) is (p.4 ∙ cc (x, y, z.0, w.0), (z.1, w.1)))))
 
+-- one word of a table
+word_step : (s word : List ℕ) (x h : How) (o : Option How) → cond (bytes_eq s word) (Some x) o ≡ Some h → how_word x ≡ word → (o ≡ Some h → s ≡ how_word h) → s ≡ how_word h
+word_step s word x h o e is rest =
+    elim (either_some (bytes_eq s word) (Some x) o h e) [
+      | inl one ↦ (bytes_eq-Decides s word).0 one.0 ∙ sym is ∙ ap how_word (same_Some _ _ one.1)
+      | inr other ↦ rest other
+    ]
+
+how_exact : (s : List ℕ) (h : How) → how_of s ≡ Some h → s ≡ how_word h
+unfolding how_of
+how_exact s h e =
+    word_step s (codes "intersecting") how.Intersecting h _ e refl (λ e.
+    word_step s (codes "containing") how.Containing h _ e refl (λ e.
+    word_step s (codes "contained_in") how.ContainedIn h _ e refl (λ e.
+    word_step s (codes "starting_in") how.StartingIn h _ e refl (λ e.
+    word_step s (codes "starting_at") how.StartingAt h _ e refl (λ e.
+    word_step s (codes "ending_in") how.EndingIn h _ e refl (λ e.
+    word_step s (codes "ending_at") how.EndingAt h _ e refl (λ e. absurd (none-some h e))))))))
+
+marks_exact : (d : Data) (c : Command) → IsInKeyOrder d → string_in (codes "do") d ≡ Some (codes "marks") → marks_of d ≡ Some c → (d ≡ command_value c) × IsReadable c
+unfolding marks_of
+marks_exact d c sorted word e =
+    let t = test_some (member_count d == 3) _ c e in
+    option_and_then_some (λ h. option_map (command.Marks h) (range_in d)) (option_and_then how_of (string_in (codes "how") d)) c t.1 (λ h h_is rest.
+    option_and_then_some how_of (string_in (codes "how") d) h h_is (λ s s_is of.
+    behind_map (command.Marks h) (range_in d) c rest (λ r r_is is.
+    let p = three_of (codes "do") (codes "how") (codes "range") d ((refl, (refl, tt)), ((refl, tt), (tt, tt))) sorted (eqb-true (member_count d) 3 t.0) (there as_str _ _ word) (there as_str _ _ s_is) (there range_of _ _ r_is) in
+    let x = string_exact p.first (codes "marks") (subst (λ v. string_in (codes "do") v ≡ Some (codes "marks")) p.is word) in
+    let y = string_exact p.second s (subst (λ v. string_in (codes "how") v ≡ Some s) p.is s_is) in
+    let z = range_exact p.third r (subst (λ v. range_in v ≡ Some r) p.is r_is) in
+    subst (λ v. (d ≡ command_value v) × IsReadable v) is (three_made (codes "do") (codes "how") (codes "range") d p _ _ _ x (y ∙ ap string (how_exact s h of)) z.0, z.1))))
+
+-- ---- reads
+
+size_exact : (d : Data) (r : Read) → IsInKeyOrder d → string_in (codes "get") d ≡ Some (codes "size") → size_of d ≡ Some r → (d ≡ read_value r) × IsReadableRead r
+unfolding size_of
+size_exact d r sorted word e =
+    let t = test_some (member_count d == 1) _ r e in
+    let part = one_of (codes "get") d sorted (eqb-true (member_count d) 1 t.0) (there as_str _ _ word) in
+    let x = string_exact part.0 (codes "size") (subst (λ v. string_in (codes "get") v ≡ Some (codes "size")) part.1 word) in
+    subst (λ v. (d ≡ read_value v) × IsReadableRead v) (same_Some _ _ t.1) (part.1 ∙ ap (λ v. object (member (codes "get") v no_members)) x, tt)
+
+look_read_exact : (d : Data) (r : Read) → IsInKeyOrder d → string_in (codes "get") d ≡ Some (codes "text") → look_read_of d ≡ Some r → (d ≡ read_value r) × IsReadableRead r
+unfolding look_read_of
+look_read_exact d r sorted word e =
+    let t = test_some (member_count d == 3) _ r e in
+    option_and_then_some (λ range. option_map (read.Text range) (whole_in MAX_SHOWN (codes "limit") d)) (range_in d) r t.1 (λ range range_is rest.
+    behind_map (read.Text range) (whole_in MAX_SHOWN (codes "limit") d) r rest (λ n n_is is.
+    let p = three_of (codes "get") (codes "limit") (codes "range") d ((refl, (refl, tt)), ((refl, tt), (tt, tt))) sorted (eqb-true (member_count d) 3 t.0) (there as_str _ _ word) (there (whole_of MAX_SHOWN) _ _ n_is) (there range_of _ _ range_is) in
+    let x = string_exact p.first (codes "text") (subst (λ v. string_in (codes "get") v ≡ Some (codes "text")) p.is word) in
+    let y = whole_exact MAX_SHOWN n p.second (subst (λ v. whole_in MAX_SHOWN (codes "limit") v ≡ Some n) p.is n_is) in
+    let z = range_exact p.third range (subst (λ v. range_in v ≡ Some range) p.is range_is) in
+    subst (λ v. (d ≡ read_value v) × IsReadableRead v) is (three_made (codes "get") (codes "limit") (codes "range") d p _ _ _ x y.0 z.0, (z.1, y.1))))
+
+find_exact : (d : Data) (r : Read) → IsInKeyOrder d → string_in (codes "get") d ≡ Some (codes "find") → find_of d ≡ Some r → (d ≡ read_value r) × IsReadableRead r
+unfolding find_of
+find_exact d r sorted word e =
+    let t = test_some (member_count d == 3) _ r e in
+    option_and_then_some (λ s. option_map (read.Find s) (whole_in MAX_HITS (codes "limit") d)) (string_in (codes "needle") d) r t.1 (λ s s_is rest.
+    behind_map (read.Find s) (whole_in MAX_HITS (codes "limit") d) r rest (λ n n_is is.
+    let p = three_of (codes "get") (codes "limit") (codes "needle") d ((refl, (refl, tt)), ((refl, tt), (tt, tt))) sorted (eqb-true (member_count d) 3 t.0) (there as_str _ _ word) (there (whole_of MAX_HITS) _ _ n_is) (there as_str _ _ s_is) in
+    let x = string_exact p.first (codes "find") (subst (λ v. string_in (codes "get") v ≡ Some (codes "find")) p.is word) in
+    let y = whole_exact MAX_HITS n p.second (subst (λ v. whole_in MAX_HITS (codes "limit") v ≡ Some n) p.is n_is) in
+    let z = string_exact p.third s (subst (λ v. string_in (codes "needle") v ≡ Some s) p.is s_is) in
+    subst (λ v. (d ≡ read_value v) × IsReadableRead v) is (three_made (codes "get") (codes "limit") (codes "needle") d p _ _ _ x y.0 z, y.1)))
+
+pattern_exact : (d : Data) (r : Read) → IsInKeyOrder d → string_in (codes "get") d ≡ Some (codes "pattern") → pattern_of d ≡ Some r → (d ≡ read_value r) × IsReadableRead r
+unfolding pattern_of
+pattern_exact d r sorted word e =
+    let t = test_some (member_count d == 3) _ r e in
+    option_and_then_some (λ s. option_map (read.Pattern s) (whole_in MAX_HITS (codes "limit") d)) (string_in (codes "pattern") d) r t.1 (λ s s_is rest.
+    behind_map (read.Pattern s) (whole_in MAX_HITS (codes "limit") d) r rest (λ n n_is is.
+    let p = three_of (codes "get") (codes "limit") (codes "pattern") d ((refl, (refl, tt)), ((refl, tt), (tt, tt))) sorted (eqb-true (member_count d) 3 t.0) (there as_str _ _ word) (there (whole_of MAX_HITS) _ _ n_is) (there as_str _ _ s_is) in
+    let x = string_exact p.first (codes "pattern") (subst (λ v. string_in (codes "get") v ≡ Some (codes "pattern")) p.is word) in
+    let y = whole_exact MAX_HITS n p.second (subst (λ v. whole_in MAX_HITS (codes "limit") v ≡ Some n) p.is n_is) in
+    let z = string_exact p.third s (subst (λ v. string_in (codes "pattern") v ≡ Some s) p.is s_is) in
+    subst (λ v. (d ≡ read_value v) × IsReadableRead v) is (three_made (codes "get") (codes "limit") (codes "pattern") d p _ _ _ x y.0 z, y.1)))
+
+read_exact : (d : Data) (r : Read) → IsInKeyOrder d → read_of d ≡ Some r → (d ≡ read_value r) × IsReadableRead r
+unfolding read_of
+read_exact d r sorted e =
+    elim (either_some (is_word (string_in (codes "get") d) (codes "size")) (size_of d) _ r e) [
+      | inl is ↦ size_exact d r sorted (word_exact _ _ is.0) is.1
+      | inr rest1 ↦ elim (either_some (is_word (string_in (codes "get") d) (codes "text")) (look_read_of d) _ r rest1) [
+        | inl is ↦ look_read_exact d r sorted (word_exact _ _ is.0) is.1
+        | inr rest2 ↦ elim (either_some (is_word (string_in (codes "get") d) (codes "find")) (find_of d) _ r rest2) [
+          | inl is ↦ find_exact d r sorted (word_exact _ _ is.0) is.1
+          | inr rest3 ↦ let is = test_some (is_word (string_in (codes "get") d) (codes "pattern")) (pattern_of d) r rest3 in pattern_exact d r sorted (word_exact _ _ is.0) is.1
+        ]
+      ]
+    ]
+
+reads_exact : (ds : Items) (rs : List Read) → ItemsInKeyOrder ds → reads_of ds ≡ Some rs → (ds ≡ items_of (map read_value rs)) × AllByRecursion IsReadableRead rs
+reads_exact no_items rs sorted e = subst (λ xs. (no_items ≡ items_of (map read_value xs)) × AllByRecursion IsReadableRead xs) (same_Some [] rs e) (refl, tt)
+reads_exact (item d ds) rs sorted e =
+    option_and_then_some (λ r. option_map (λ xs. r ∷ xs) (reads_of ds)) (read_of d) rs e (λ r first rest.
+    behind_map (λ xs. r ∷ xs) (reads_of ds) rs rest (λ xs others is.
+    let one = read_exact d r sorted.0 first in
+    let more = reads_exact ds xs sorted.1 others in
+    subst (λ ys. (item d ds ≡ items_of (map read_value ys)) × AllByRecursion IsReadableRead ys) is (ap₂ item one.0 more.0, (one.1, more.1))))
+
+read_command_exact : (d : Data) (c : Command) → IsInKeyOrder d → string_in (codes "do") d ≡ Some (codes "read") → read_command_of d ≡ Some c → (d ≡ command_value c) × IsReadable c
+unfolding read_command_of
+read_command_exact d c sorted word e =
+    let t = test_some (member_count d == 3) _ c e in
+    option_and_then_some (λ k. option_map (command.Read k) (listed_reads d)) (whole_in MAX_ID (codes "snapshot") d) c t.1 (λ k k_is more.
+    behind_map (command.Read k) (listed_reads d) c more (λ rs rs_is is.
+    option_and_then_some reads_of (option_and_then as_array (get (codes "reads") d)) rs rs_is (λ ds ds_is of.
+    let p = three_of (codes "do") (codes "reads") (codes "snapshot") d ((refl, (refl, tt)), ((refl, tt), (tt, tt))) sorted (eqb-true (member_count d) 3 t.0) (there as_str _ _ word) (there as_array _ _ ds_is) (there (whole_of MAX_ID) _ _ k_is) in
+    let within : IsInKeyOrder (object (member (codes "do") p.first (member (codes "reads") p.second (member (codes "snapshot") p.third no_members)))) = subst IsInKeyOrder p.is sorted in
+    let x = string_exact p.first (codes "read") (subst (λ v. string_in (codes "do") v ≡ Some (codes "read")) p.is word) in
+    let y = array_exact p.second ds (subst (λ v. option_and_then as_array (get (codes "reads") v) ≡ Some ds) p.is ds_is) in
+    let z = whole_exact MAX_ID k p.third (subst (λ v. whole_in MAX_ID (codes "snapshot") v ≡ Some k) p.is k_is) in
+    let exact = reads_exact ds rs (subst IsInKeyOrder y within.1.1.0) of in
+    subst (λ v. (d ≡ command_value v) × IsReadable v) is (three_made (codes "do") (codes "reads") (codes "snapshot") d p _ _ _ x (y ∙ ap array exact.0) z.0, (z.1, exact.1)))))
+
+on_snapshots_exact : (d : Data) (c : Command) → IsInKeyOrder d → on_snapshots_of d ≡ Some c → (d ≡ command_value c) × IsReadable c
+unfolding on_snapshots_of
+on_snapshots_exact d c sorted e =
+    elim (either_some (is_word (string_in (codes "do") d) (codes "take")) (take_of d) _ c e) [
+      | inl is ↦ take_exact d c sorted (word_exact _ _ is.0) is.1
+      | inr rest1 ↦ elim (either_some (is_word (string_in (codes "do") d) (codes "read")) (read_command_of d) _ c rest1) [
+        | inl is ↦ read_command_exact d c sorted (word_exact _ _ is.0) is.1
+        | inr rest2 ↦ let is = test_some (is_word (string_in (codes "do") d) (codes "release")) (release_of d) c rest2 in release_exact d c sorted (word_exact _ _ is.0) is.1
+      ]
+    ]
+
 on_text_exact : (d : Data) (c : Command) → IsInKeyOrder d → on_text_of d ≡ Some c → (d ≡ command_value c) × IsReadable c
 unfolding on_text_of
 on_text_exact d c sorted e =
@@ -362,7 +548,8 @@ unfolding command_of
 command_exact d c sorted e =
     elim (either_some (is_on_marks d) (on_marks_of d) _ c e) [
       | inl marks ↦ mark_cases d c ((d ≡ command_value c) × IsReadable c) marks.1 (unmark_mark_exact d c sorted) (range_mark_exact d c sorted) (exclusive_exact d c sorted) (compare_exact d c sorted) (mark_exact d c sorted)
-      | inr text ↦ on_text_exact d c sorted text
+          (marks_exact d c sorted) (watch_exact d c sorted) (unwatch_exact d c sorted)
+      | inr other ↦ elim (either_some (is_on_snapshots d) (on_snapshots_of d) _ c other) [ inl snapshots ↦ on_snapshots_exact d c sorted snapshots.1 | inr text ↦ on_text_exact d c sorted text ]
     ]
 
 commands_exact : (ds : Items) (cs : List Command) → ItemsInKeyOrder ds → commands_of ds ≡ Some cs → (ds ≡ items_of (map command_value cs)) × AllByRecursion IsReadable cs
@@ -375,14 +562,6 @@ commands_exact (item d ds) cs sorted e =
     subst (λ ys. (item d ds ≡ items_of (map command_value ys)) × AllByRecursion IsReadable ys) is (ap₂ item one.0 more.0, (one.1, more.1))))
 
 -- ---- sessions, the opening and the whole
-
-pub array_exact : (d : Data) (ds : Items) → as_array d ≡ Some ds → d ≡ array ds
-array_exact null ds e = absurd (none-some ds e)
-array_exact (boolean b) ds e = absurd (none-some ds e)
-array_exact (number n) ds e = absurd (none-some ds e)
-array_exact (string s) ds e = absurd (none-some ds e)
-array_exact (array es) ds e = ap array (same_Some es ds e)
-array_exact (object ms) ds e = absurd (none-some ds e)
 
 session_exact : (d : Data) (cs : List Command) → IsInKeyOrder d → session_of d ≡ Some cs → (d ≡ session_value cs) × AllByRecursion IsReadable cs
 unfolding session_of

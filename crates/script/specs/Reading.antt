@@ -1,19 +1,21 @@
 -- What a function that reads a part of a JSON value answers, and what a reader counts.
-use Rattle.std.specs.Prelude.{◌≡◌, ◌≤◌, ◌+◌, ◌&&◌, ℕ, nat_lt, nat_le, List, [], ◌∷◌, Bool, false, Option, Some, None, Result, Ok, Err}
+use Rattle.std.specs.Prelude.{◌≡◌, ◌≤◌, ◌||◌, not, ℕ, List, [], ◌∷◌, Bool, true, false, Option, Some, None, is_some, Result, Ok, Err}
 use Rattle.machine.specs.declared.command.Command.{Command}
 use Rattle.machine.specs.declared.command.Opening.TheVariants as opening
 use Rattle.machine.specs.declared.command.Script.{Script}
 use Rattle.script.specs.declared.before.Before.{Before}
 use Rattle.script.specs.declared.before.CommandFault.{CommandFault}
 use Rattle.script.specs.declared.before.CommandFault.TheVariants as fault
-use Rattle.script.specs.declared.limits.TheConstants.{MAX_COMMANDS, MAX_READINGS}
+use Rattle.script.specs.declared.limits.TheConstants.{MAX_COMMANDS, MAX_READINGS, MAX_FINDS, MAX_WATCHES}
 use Rattle.script.specs.declared.parts.Misfit.{Misfit}
 use Rattle.script.specs.declared.parts.Misfit.TheVariants.{Shape, NoMemory}
 use Rattle.script.specs.declared.refusal.ScriptRule.{ScriptRule}
+use Rattle.script.specs.Parts.{items_in}
 use Rattle.script.specs.Rules as rules
-use Rattle.script.specs.Rules.{at_start, next, one_if, command_tests, first_broken}
+use Rattle.script.specs.Rules.{at_start, next, names_in, reads_in, is_too_many, any_item, is_unbuilt_read, read_breaks, wrong_kind, command_tests, first_broken}
 use Rattle.script.specs.ScriptDocument.{command_of}
 use Rattle.serde_json.specs.Data.{Data}
+use Rattle.serde_json.specs.Find.{as_array}
 
 -- the part isn't there, or memory ran out
 abbrev pub Fails : {X : Type 0} → Misfit → Option X → Type 0
@@ -25,18 +27,26 @@ abbrev pub Gives : {X Y : Type 0} → (X → Y) → Result X Misfit → Option Y
 Gives seen (Ok x) part = part ≡ Some (seen x)
 Gives seen (Err misfit) part = Fails misfit part
 
--- what the rules ask for of what was counted: nothing that isn't built was there
+-- what the rules ask for of what was counted: no save was there, and no session before
 abbrev pub counted : Before → rules.Before
-counted b = record at_start { commands = b.commands; reading = b.readings }
+counted b = record at_start { commands = b.commands; reading = b.readings; marks = b.finds; watches = b.watches; peak = b.peak; live = b.live }
 
 -- within the limits
 pub record IsFew (b : Before) : Type 0 where
   pub commands : b.commands ≤ MAX_COMMANDS
   pub readings : b.readings ≤ MAX_READINGS
+  pub finds : b.finds ≤ MAX_FINDS
+  pub watches : b.watches ≤ MAX_WATCHES
 
--- one more command is within them, where it shows a text or not
-abbrev pub has_room : Before → Bool → Bool
-has_room b shows = nat_lt b.commands MAX_COMMANDS && nat_le (b.readings + one_if shows) MAX_READINGS
+-- a value that has no saves, and with which there isn't too much of anything
+pub record HasRoom (b : Before) (d : Data) : Type 0 where
+  pub names : names_in (reads_in d) ≡ []
+  pub few : is_too_many (counted b) d ≡ false
+
+-- the member `reads` is no list, or one of its reads is broken or isn't built
+abbrev pub reads_break : Option Data → Bool
+reads_break None = true
+reads_break (Some d) = not (is_some (as_array d)) || any_item (λ r. is_unbuilt_read r || read_breaks wrong_kind true r) (items_in d)
 
 -- a command that breaks no rule was read, and counted
 pub record IsRead (old new : Before) (d : Data) (c : Command) : Type 0 where

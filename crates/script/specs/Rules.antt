@@ -157,11 +157,15 @@ names_one_of live (Some n) = list_any (λ m. m == n) live
 abbrev pub is_live : Before → Data → Bool
 is_live b d = names_one_of b.live (snapshot_in d)
 
--- the numbers that are live after it
+-- the numbers that are live after it: a `take` makes its number live, a `send` and a `release` end theirs
+abbrev pub ended : List ℕ → Option ℕ → List ℕ
+ended live None = live
+ended live (Some n) = filter (λ m. not (m == n)) live
+
 abbrev pub live_after : List ℕ → Data → List ℕ
 live_after live d =
     if is_do (codes "take") d then option_to_list (snapshot_in d) ++ live
-    else (if is_do (codes "send") d || is_do (codes "release") d then filter (λ m. not (names_one_of (m ∷ []) (snapshot_in d))) live else live)
+    else (if is_do (codes "send") d || is_do (codes "release") d then ended live (snapshot_in d) else live)
 
 abbrev pub next : Before → Data → Before
 next b d = record {
@@ -199,21 +203,34 @@ abbrev pub bare_words : List (List ℕ)
 bare_words = codes "undo" ∷ codes "redo" ∷ codes "squash" ∷ []
 
 abbrev pub built_words : List (List ℕ)
-built_words = codes "edit" ∷ codes "text" ∷ codes "unmark" ∷ codes "range" ∷ codes "exclusive" ∷ codes "compare" ∷ codes "mark" ∷ bare_words
+built_words =
+    codes "edit" ∷ codes "text" ∷ codes "unmark" ∷ codes "range" ∷ codes "exclusive" ∷ codes "compare" ∷ codes "mark" ∷ codes "marks" ∷ codes "watch" ∷ codes "unwatch"
+    ∷ codes "take" ∷ codes "read" ∷ codes "release" ∷ bare_words
 
--- a command on marks that are named
+-- the words of the reads that are built
+abbrev pub built_reads : List (List ℕ)
+built_reads = codes "size" ∷ codes "text" ∷ codes "find" ∷ codes "pattern" ∷ []
+
+-- a command on marks and watchers
 abbrev pub is_on_marks : Data → Bool
-is_on_marks d = is_one_of (codes "unmark" ∷ codes "range" ∷ codes "exclusive" ∷ codes "compare" ∷ codes "mark" ∷ []) (string_in (codes "do") d)
+is_on_marks d = is_one_of (codes "unmark" ∷ codes "range" ∷ codes "exclusive" ∷ codes "compare" ∷ codes "mark" ∷ codes "marks" ∷ codes "watch" ∷ codes "unwatch" ∷ []) (string_in (codes "do") d)
+
+-- a command on snapshots
+abbrev pub is_on_snapshots : Data → Bool
+is_on_snapshots d = is_one_of (codes "take" ∷ codes "read" ∷ codes "release" ∷ []) (string_in (codes "do") d)
 
 -- a command whose word has no member beside it
 abbrev pub is_bare : Data → Bool
 is_bare d = is_one_of bare_words (string_in (codes "do") d)
 
--- a command that isn't built
-abbrev pub is_unbuilt : Data → Bool
-is_unbuilt d = not (is_one_of built_words (string_in (codes "do") d))
+-- a command or a read that isn't built
+abbrev pub is_unbuilt_read : Data → Bool
+is_unbuilt_read d = not (is_one_of built_reads (string_in (codes "get") d))
 
--- The shape of a command is broken; unless `all` words are looked at, also where its word isn't built.
+abbrev pub is_unbuilt : Data → Bool
+is_unbuilt d = not (is_one_of built_words (string_in (codes "do") d)) || any_item is_unbuilt_read (reads_in d)
+
+-- The shape of a command is broken; unless `all` words are looked at, also where its word or one of its reads isn't built.
 abbrev pub is_misshapen : Bool → Data → Bool
 is_misshapen all d = (is_unbuilt d && not all) || command_breaks wrong_kind true d
 

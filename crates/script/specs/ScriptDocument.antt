@@ -1,20 +1,24 @@
 -- Which JSON values are scripts, and which script each is.
 use Rattle.std.specs.Prelude.{◌≡◌, ℕ, ◌==◌, ◌&&◌, List, [], ◌∷◌, codes, if◌then◌else◌, Option, Some, None, is_some, option_map, option_and_then}
-use Rattle.std.specs.Str.{is_utf8}
+use Rattle.std.specs.Str.{is_utf8, bytes_eq}
 use Rattle.machine.specs.declared.command.Command.{Command}
 use Rattle.machine.specs.declared.command.Command.TheVariants as command
+use Rattle.machine.specs.declared.command.How.{How}
+use Rattle.machine.specs.declared.command.How.TheVariants as how
 use Rattle.machine.specs.declared.command.Opening.{Opening}
 use Rattle.machine.specs.declared.command.Opening.TheVariants as opening
 use Rattle.machine.specs.declared.command.Script.{Script}
+use Rattle.machine.specs.declared.reads.Read.{Read}
+use Rattle.machine.specs.declared.reads.Read.TheVariants as read
 use Rattle.script.specs.declared.refusal.ScriptRefusal.{ScriptRefusal}
 use Rattle.script.specs.declared.refusal.ScriptRefusal.TheVariants.{Refused, NoMemory}
 use Rattle.script.specs.declared.refusal.ScriptRule.TheVariants.{NotJson}
 use Rattle.script.specs.Parts.{member_count, item_count, string_in, whole_in, flag_in, is_word, range_in}
-use Rattle.script.specs.declared.limits.TheConstants.{MAX_SHOWN, MAX_ID}
-use Rattle.script.specs.Rules.{Fault, is_on_marks, is_version_one, built_place}
+use Rattle.script.specs.declared.limits.TheConstants.{MAX_SHOWN, MAX_HITS, MAX_ID}
+use Rattle.script.specs.Rules.{Fault, is_on_marks, is_on_snapshots, is_version_one, built_place}
 use Rattle.serde_json.specs.Data.{Data, Items, no_items, item}
 use Rattle.serde_json.specs.Find.{get, at, as_array}
-use Rattle.serde_json.specs.Read.{read}
+use Rattle.serde_json.specs.Read as json
 
 -- ---- reading: a case for each word that is built
 
@@ -53,13 +57,79 @@ compare_of d = if member_count d == 3 then option_and_then (λ a. option_map (co
 unfoldable pub mark_of : Data → Option Command
 mark_of d = if member_count d == 4 then option_and_then (λ id. option_and_then (λ range. option_map (command.Mark id range) (flag_in (codes "exclusive") d)) (range_in d)) (whole_in MAX_ID (codes "id") d) else None
 
+-- the marks that stand so to a range
+unfoldable pub how_of : List ℕ → Option How
+how_of s =
+    if bytes_eq s (codes "intersecting") then Some how.Intersecting
+    else (if bytes_eq s (codes "containing") then Some how.Containing
+    else (if bytes_eq s (codes "contained_in") then Some how.ContainedIn
+    else (if bytes_eq s (codes "starting_in") then Some how.StartingIn
+    else (if bytes_eq s (codes "starting_at") then Some how.StartingAt
+    else (if bytes_eq s (codes "ending_in") then Some how.EndingIn
+    else (if bytes_eq s (codes "ending_at") then Some how.EndingAt else None))))))
+
+unfoldable pub marks_of : Data → Option Command
+marks_of d = if member_count d == 3 then option_and_then (λ h. option_map (command.Marks h) (range_in d)) (option_and_then how_of (string_in (codes "how") d)) else None
+
+unfoldable pub watch_of : Data → Option Command
+watch_of d = if member_count d == 2 then option_map command.Watch (whole_in MAX_ID (codes "id") d) else None
+
+unfoldable pub unwatch_of : Data → Option Command
+unwatch_of d = if member_count d == 2 then option_map command.Unwatch (whole_in MAX_ID (codes "id") d) else None
+
 unfoldable pub on_marks_of : Data → Option Command
 on_marks_of d =
     if is_word (string_in (codes "do") d) (codes "unmark") then unmark_of d
     else (if is_word (string_in (codes "do") d) (codes "range") then mark_range_of d
     else (if is_word (string_in (codes "do") d) (codes "exclusive") then exclusive_of d
     else (if is_word (string_in (codes "do") d) (codes "compare") then compare_of d
-    else (if is_word (string_in (codes "do") d) (codes "mark") then mark_of d else None))))
+    else (if is_word (string_in (codes "do") d) (codes "mark") then mark_of d
+    else (if is_word (string_in (codes "do") d) (codes "marks") then marks_of d
+    else (if is_word (string_in (codes "do") d) (codes "watch") then watch_of d
+    else (if is_word (string_in (codes "do") d) (codes "unwatch") then unwatch_of d else None)))))))
+
+-- a read: an object with `get` and the members that its word asks for
+unfoldable pub size_of : Data → Option Read
+size_of d = if member_count d == 1 then Some read.Size else None
+
+unfoldable pub look_read_of : Data → Option Read
+look_read_of d = if member_count d == 3 then option_and_then (λ range. option_map (read.Text range) (whole_in MAX_SHOWN (codes "limit") d)) (range_in d) else None
+
+unfoldable pub find_of : Data → Option Read
+find_of d = if member_count d == 3 then option_and_then (λ needle. option_map (read.Find needle) (whole_in MAX_HITS (codes "limit") d)) (string_in (codes "needle") d) else None
+
+unfoldable pub pattern_of : Data → Option Read
+pattern_of d = if member_count d == 3 then option_and_then (λ pattern. option_map (read.Pattern pattern) (whole_in MAX_HITS (codes "limit") d)) (string_in (codes "pattern") d) else None
+
+unfoldable pub read_of : Data → Option Read
+read_of d =
+    if is_word (string_in (codes "get") d) (codes "size") then size_of d
+    else (if is_word (string_in (codes "get") d) (codes "text") then look_read_of d
+    else (if is_word (string_in (codes "get") d) (codes "find") then find_of d
+    else (if is_word (string_in (codes "get") d) (codes "pattern") then pattern_of d else None)))
+
+abbrev pub reads_of : Items → Option (List Read)
+reads_of no_items = Some []
+reads_of (item d ds) = option_and_then (λ r. option_map (λ rs. r ∷ rs) (reads_of ds)) (read_of d)
+
+-- on snapshots, each with the members that its word asks for
+unfoldable pub take_of : Data → Option Command
+take_of d = if member_count d == 2 then option_map command.Take (whole_in MAX_ID (codes "snapshot") d) else None
+
+unfoldable pub release_of : Data → Option Command
+release_of d = if member_count d == 2 then option_map command.Release (whole_in MAX_ID (codes "snapshot") d) else None
+
+abbrev pub listed_reads : Data → Option (List Read)
+listed_reads d = option_and_then reads_of (option_and_then as_array (get (codes "reads") d))
+
+unfoldable pub read_command_of : Data → Option Command
+read_command_of d = if member_count d == 3 then option_and_then (λ k. option_map (command.Read k) (listed_reads d)) (whole_in MAX_ID (codes "snapshot") d) else None
+
+unfoldable pub on_snapshots_of : Data → Option Command
+on_snapshots_of d =
+    if is_word (string_in (codes "do") d) (codes "take") then take_of d
+    else (if is_word (string_in (codes "do") d) (codes "read") then read_command_of d
+    else (if is_word (string_in (codes "do") d) (codes "release") then release_of d else None))
 
 -- on the text and its steps
 unfoldable pub on_text_of : Data → Option Command
@@ -67,7 +137,7 @@ on_text_of d = if member_count d == 3 then ranged_of d else (if member_count d =
 
 -- a command: an object with `do` and the members that its word asks for
 unfoldable pub command_of : Data → Option Command
-command_of d = if is_on_marks d then on_marks_of d else on_text_of d
+command_of d = if is_on_marks d then on_marks_of d else (if is_on_snapshots d then on_snapshots_of d else on_text_of d)
 
 abbrev pub commands_of : Items → Option (List Command)
 commands_of no_items = Some []
@@ -106,7 +176,7 @@ head_of d = if (member_count d == 3) && is_version_one d then option_and_then (�
 
 -- the JSON value of a document: UTF-8 that is one JSON value
 unfoldable pub document : List ℕ → Option Data
-document bytes = if is_utf8 bytes then read bytes else None
+document bytes = if is_utf8 bytes then json.read bytes else None
 
 -- the script that these bytes are
 abbrev pub script_in : List ℕ → Option Script

@@ -1,20 +1,18 @@
-//! What stood before a command, and the rule that a command breaks.
-ghost use Rattle.std.specs.Prelude.{◌≡◌, ◌+◌, ◌==◌, ◌&&◌, not, codes, false, true, Some, None};
-ghost use Rattle.serde_json.specs.Find.{get};
-ghost use Rattle.serde_json.specs.View.{view, items_view};
-ghost use Rattle.script.specs.declared.limits.TheConstants.{MAX_SHOWN, MAX_ID};
-ghost use Rattle.script.specs.Limits.{is_reading};
+//! What stood before a command, and the rules that a command breaks by it.
+ghost use Rattle.std.specs.Prelude.{◌≡◌, ◌+◌, ◌&&◌, not, nat_lt, length, [], codes, IfOk};
+ghost use Rattle.serde_json.specs.View.{view};
 ghost use Rattle.script.specs.Parts.{count_items};
-ghost use Rattle.script.specs.Reading.{IsFew, counted, has_room};
-ghost use Rattle.script.specs.Rows as kind;
-ghost use Rattle.script.specs.Rules.{at_start, command_tests, first_broken, field_breaks, wrong_kind, is_misshapen, is_on_marks, is_do, is_number, is_quadruple, any_item, one_if};
-ghost use Rattle.script.specs.ScriptDocument.{command_of};
+ghost use Rattle.script.specs.declared.before.CommandFault.TheVariants.{NoMemory};
+ghost use Rattle.script.specs.Reading.{IsFew, HasRoom, counted};
+ghost use Rattle.script.specs.Rules.{at_start, next, live_after, names_in, reads_in, is_do, is_live, is_too_many, needs_live, snapshot_in, readings_in};
 
-use crate::limits::{MAX_COMMANDS, MAX_READINGS};
-use crate::parts::member_count;
+use crate::limits::{MAX_COMMANDS, MAX_FINDS, MAX_ID, MAX_READINGS, MAX_WATCHES};
+use crate::parts::{is_do, item_count};
 use crate::refusal::ScriptRule;
-use machine::Command;
+use crate::snapshots::Live;
+use points::MAX_HANDS;
 use serde_json::Value;
+use std::alloc::{AllocError, Global};
 
 /// Why a command isn't taken into the script.
 #[derive(Drop)]
@@ -24,210 +22,153 @@ pub(crate) enum CommandFault {
     NoMemory,
 }
 
-/// What stood before a command: how many commands, and how many of them show a text.
+impl From<AllocError> for CommandFault {
+    ghost from_gives = { λ _ fault. fault ≡ NoMemory };
+
+    fn from(_error: AllocError) -> Self {
+        CommandFault::NoMemory
+    }
+}
+
+/// What stood before a command: how many commands, readings, finds of marks and watchers; and which snapshots are
+/// live, and how many were at once at most.
 #[derive(Drop)]
 pub(crate) struct Before {
-    pub(crate) commands: u32,
-    pub(crate) readings: u32,
+    pub(crate) commands: usize,
+    readings: usize,
+    finds: usize,
+    watches: usize,
+    peak: usize,
+    live: Live,
+}
+
+// How many reads a `read` or a `send` has.
+fn read_count(value: &Value) -> usize
+    ensures { result ≡ count_items (reads_in (view value.now)) }
+{
+    if !is_do(value, "read") && !is_do(value, "send") {
+        return 0;
+    }
+    match value.get("reads") {
+        Some(reads) => item_count(reads),
+        None => 0,
+    }
+}
+
+// The number of the snapshot that the value names.
+fn snapshot_in(value: &Value) -> Option<u32>
+    ensures { result ≡ snapshot_in (view value.now) }
+{
+    match value.get("snapshot") {
+        Some(number) => match number.as_u64() {
+            Some(n) if n <= MAX_ID as u64 => Some(n as u32),
+            _ => None,
+        },
+        None => None,
+    }
+}
+
+// What is live after the command.
+fn go_on(live: &mut Live, value: &Value) -> Result<(), AllocError>
+    ensures { IfOk result (λ _. live.new ≡ live_after live.old (view value.now)) }
+{
+    let Some(number) = snapshot_in(value) else {
+        return Ok(());
+    };
+    if is_do(value, "take") {
+        return live.take(number);
+    }
+    if is_do(value, "send") || is_do(value, "release") {
+        live.end(number);
+    }
+    Ok(())
 }
 
 impl Before {
     /// What stands before the first command.
-    pub(crate) fn at_start() -> Before
+    pub(crate) fn at_start(alloc: Global) -> Before
         ensures empty { counted result ≡ at_start }
         ensures few { IsFew result }
     {
         Before {
             commands: 0,
             readings: 0,
+            finds: 0,
+            watches: 0,
+            peak: 0,
+            live: Live::none(alloc),
         }
     }
 
-    // Whether one more command is within the limits, where it shows a text or not.
-    fn has_room(&self, shows: bool) -> bool
+    // Whether the command brings too many readings.
+    fn has_many_readings(&self, value: &Value) -> bool
         requires few { IsFew self.now }
-        ensures { result ≡ has_room self.now shows }
+        ensures { result ≡ nat_lt MAX_READINGS (self.now.readings + readings_in (view value.now)) }
     {
-        self.commands < MAX_COMMANDS as u32 && self.readings + shows as u32 <= MAX_READINGS as u32
+        let room = MAX_READINGS - self.readings;
+        let shows = (is_do(value, "text") || is_do(value, "marks")) as usize;
+        shows > room || read_count(value) > room - shows
     }
 
-    /// Counts one more command, where it is within the limits.
-    pub(crate) fn add(&mut self, shows: bool) -> bool
+    // Whether the command brings too many hands.
+    fn has_many_hands(&self, value: &Value) -> bool
+        ensures { result ≡ (is_do (codes "take") (view value.now) && nat_lt MAX_HANDS (length self.now.live + 1)) }
+    {
+        is_do(value, "take") && self.live.count() >= MAX_HANDS
+    }
+
+    /// Whether there is too much of something with the command, which has no saves.
+    pub(crate) fn is_too_many(&self, value: &Value) -> bool
         requires few { IsFew self.now }
-        ensures room { result ≡ has_room self.old shows }
-        ensures commands { self.new.commands ≡ self.old.commands + one_if result }
-        ensures readings { self.new.readings ≡ self.old.readings + one_if (result && shows) }
+        requires names { names_in (reads_in (view value.now)) ≡ [] }
+        ensures { result ≡ is_too_many (counted self.now) (view value.now) }
     {
-        let has_room = self.has_room(shows);
-        if has_room {
-            self.commands += 1;
-            self.readings += shows as u32;
-        }
-        has_room
+        self.commands >= MAX_COMMANDS
+            || self.has_many_readings(value)
+            || self.finds + is_do(value, "marks") as usize > MAX_FINDS
+            || self.watches + is_do(value, "watch") as usize > MAX_WATCHES
+            || self.has_many_hands(value)
     }
-}
 
-/// Whether the command shows a text.
-pub(crate) fn shows_text(command: &Command) -> bool
-    ensures { result ≡ is_reading command.now }
-{
-    match command {
-        Command::Text { .. } => true,
-        _ => false,
-    }
-}
-
-// Whether the value's `do` is this word.
-fn is_do(value: &Value, word: &str) -> bool
-    ensures { result ≡ is_do word.now (view value.now) }
-{
-    match value.get("do") {
-        Some(found) => match found.as_str() {
-            Some(found) => found == word,
+    // Whether the number that the command names is live.
+    fn is_live(&self, value: &Value) -> bool
+        ensures { result ≡ is_live (counted self.now) (view value.now) }
+    {
+        match snapshot_in(value) {
+            Some(number) => self.live.has(number),
             None => false,
-        },
-        None => false,
-    }
-}
-
-// How many items there are.
-fn count_of(items: &[Value]) -> usize
-    ensures { result ≡ count_items (items_view items.now) }
-{
-    items.len()
-}
-
-// Whether there are four items, each a number.
-fn are_four_numbers(items: &[Value]) -> bool
-    ensures { result ≡ ((count_items (items_view items.now) == 4) && not (any_item (λ n. not (is_number n)) (items_view items.now))) }
-{
-    if count_of(items) != 4 {
-        return false;
-    }
-    for item in items {
-        if item.as_number().is_none() {
-            return false;
         }
     }
-    true
-}
 
-// Whether the member `range` is a list of four numbers.
-fn lacks_range(value: &Value) -> bool
-    ensures { result ≡ field_breaks wrong_kind true kind.range (get (codes "range") (view value.now)) }
-{
-    match value.get("range") {
-        Some(range) => match range.as_array() {
-            Some(items) => !are_four_numbers(items.as_slice()),
-            None => true,
-        },
-        None => true,
+    /// Whether the command needs a number to be live that isn't.
+    pub(crate) fn lacks_snapshot(&self, value: &Value) -> bool
+        ensures { result ≡ (needs_live (view value.now) && not (is_live (counted self.now) (view value.now))) }
+    {
+        (is_do(value, "read") || is_do(value, "send") || is_do(value, "release"))
+            && !self.is_live(value)
     }
-}
 
-// Whether the member `text` is a string.
-fn lacks_text(value: &Value) -> bool
-    ensures { result ≡ field_breaks wrong_kind true kind.text (get (codes "text") (view value.now)) }
-{
-    match value.get("text") {
-        Some(text) => text.as_str().is_none(),
-        None => true,
+    /// Whether the command takes a number that is live.
+    pub(crate) fn takes_again(&self, value: &Value) -> bool
+        ensures { result ≡ (is_do (codes "take") (view value.now) && is_live (counted self.now) (view value.now)) }
+    {
+        is_do(value, "take") && self.is_live(value)
     }
-}
 
-// Whether the member `limit` is a number.
-fn lacks_limit(value: &Value) -> bool
-    ensures { result ≡ field_breaks wrong_kind true (kind.whole MAX_SHOWN) (get (codes "limit") (view value.now)) }
-{
-    match value.get("limit") {
-        Some(limit) => limit.as_number().is_none(),
-        None => true,
-    }
-}
-
-// Whether the member is a number, as an id.
-fn lacks_id(value: &Value, key: &str) -> bool
-    ensures { result ≡ field_breaks wrong_kind true (kind.whole MAX_ID) (get key.now (view value.now)) }
-{
-    match value.get(key) {
-        Some(id) => id.as_number().is_none(),
-        None => true,
-    }
-}
-
-// Whether the member is true or false.
-fn lacks_flag(value: &Value, key: &str) -> bool
-    ensures { result ≡ field_breaks wrong_kind true kind.flag (get key.now (view value.now)) }
-{
-    match value.get(key) {
-        Some(flag) => flag.as_bool().is_none(),
-        None => true,
-    }
-}
-
-/// Whether the value's word is one of those on marks that are named.
-pub(crate) fn is_on_marks(value: &Value) -> bool
-    ensures { result ≡ is_on_marks (view value.now) }
-{
-    is_do(value, "unmark")
-        || is_do(value, "range")
-        || is_do(value, "exclusive")
-        || is_do(value, "compare")
-        || is_do(value, "mark")
-}
-
-// Whether the shape of the command is broken, or its word isn't built.
-fn is_misshapen(value: &Value) -> bool
-    ensures { result ≡ is_misshapen false (view value.now) }
-{
-    if is_do(value, "edit") {
-        return member_count(value) != 3 || lacks_range(value) || lacks_text(value);
-    }
-    if is_do(value, "text") {
-        return member_count(value) != 3 || lacks_range(value) || lacks_limit(value);
-    }
-    if is_do(value, "undo") {
-        return member_count(value) != 1;
-    }
-    if is_do(value, "redo") {
-        return member_count(value) != 1;
-    }
-    if is_do(value, "squash") {
-        return member_count(value) != 1;
-    }
-    if is_do(value, "mark") {
-        return member_count(value) != 4
-            || lacks_id(value, "id")
-            || lacks_range(value)
-            || lacks_flag(value, "exclusive");
-    }
-    if is_do(value, "unmark") {
-        return member_count(value) != 2 || lacks_id(value, "id");
-    }
-    if is_do(value, "exclusive") {
-        return member_count(value) != 3 || lacks_id(value, "id") || lacks_flag(value, "value");
-    }
-    if is_do(value, "range") {
-        return member_count(value) != 2 || lacks_id(value, "id");
-    }
-    if is_do(value, "compare") {
-        return member_count(value) != 3 || lacks_id(value, "a") || lacks_id(value, "b");
-    }
-    true
-}
-
-/// The lowest rule that a command breaks that isn't read.
-pub(crate) fn broken_rule(before: &Before, value: &Value) -> ScriptRule
-    requires few { IsFew before.now }
-    requires unread { command_of (view value.now) ≡ None }
-    ensures { first_broken (command_tests false (counted before.now) (view value.now)) ≡ Some result }
-{
-    if is_misshapen(value) {
-        return ScriptRule::BadShape;
-    }
-    if before.has_room(is_do(value, "text")) {
-        ScriptRule::BadNumber
-    } else {
-        ScriptRule::TooMany
+    /// Counts one more command, with which there isn't too much of anything.
+    pub(crate) fn add(&mut self, value: &Value) -> Result<(), AllocError>
+        requires few { IsFew self.now }
+        requires room { HasRoom self.now (view value.now) }
+        ensures counted { IfOk result (λ _. counted self.new ≡ next (counted self.old) (view value.now)) }
+        ensures few { IfOk result (λ _. IsFew self.new) }
+    {
+        go_on(&mut self.live, value)?;
+        self.commands += 1;
+        self.readings += (is_do(value, "text") || is_do(value, "marks")) as usize;
+        self.readings += read_count(value);
+        self.finds += is_do(value, "marks") as usize;
+        self.watches += is_do(value, "watch") as usize;
+        self.peak = self.peak.max(self.live.count());
+        Ok(())
     }
 }

@@ -7,13 +7,17 @@
 #![tactic(auto)]
 
 mod before;
+mod commands;
 mod count;
 pub mod document_laws;
 mod limits;
 mod parts;
 mod read;
+mod reads;
 mod refusal;
 mod replies;
+mod shape;
+mod snapshots;
 mod values;
 mod write;
 

@@ -4,6 +4,7 @@ ghost use Rattle.serde_json.specs.Find.{get};
 ghost use Rattle.serde_json.specs.View.{view};
 ghost use Rattle.script.specs.Parts.{member_count, item_count, string_in, whole_of, whole_in, flag_in, coordinate, point_from, range_between, range_of, range_in};
 ghost use Rattle.script.specs.Reading.{Gives};
+ghost use Rattle.script.specs.Rules.{is_do};
 ghost use Rattle.script.specs.declared.parts.Misfit.TheVariants.{NoMemory};
 
 use points::{MAX_COORD, Point, Range};
@@ -138,4 +139,17 @@ pub(crate) fn range_in(value: &Value) -> Result<Range, Misfit>
     ensures { Gives (λ r. r) result (range_in (view value.now)) }
 {
     range_of(member(value, "range")?)
+}
+
+// Whether the value's `do` is this word.
+pub(crate) fn is_do(value: &Value, word: &str) -> bool
+    ensures { result ≡ is_do word.now (view value.now) }
+{
+    match value.get("do") {
+        Some(found) => match found.as_str() {
+            Some(found) => found == word,
+            None => false,
+        },
+        None => false,
+    }
 }

@@ -1,0 +1,49 @@
+-- The shape of a command that reads a snapshot.
+use Rattle.std.proofs.Common.{◌≡◌, ◌&&◌, ◌||◌, not, ℕ, List, Bool, true, false, Option, Some, None, refl, sym, ap, ◌∙◌}
+use Rattle.std.specs.Prelude.{◌==◌, codes}
+use Rattle.script.specs.declared.limits.TheConstants.{MAX_ID}
+use Rattle.script.specs.Parts.{member_count, string_in}
+use Rattle.script.specs.Reading.{reads_break}
+use Rattle.script.specs.Rows as kind
+use Rattle.script.specs.Rules.{any_item, field_breaks, is_misshapen, is_unbuilt_read, read_breaks, wrong_kind}
+use Rattle.std.specs.Str.{bytes_eq}
+use Rattle.std.proofs.lemmas.Slice.Eq.{bytes_eq-Decides}
+use Rattle.serde_json.specs.Data.{Data, Items, no_items, item}
+use Rattle.serde_json.specs.Find.{get, as_array}
+
+four_or : (a b c d : Bool) → ((a || b) || (c || d)) ≡ ((a || c) || (b || d))
+four_or true b c d = refl
+four_or false true true d = refl
+four_or false true false d = refl
+four_or false false c d = refl
+
+any_either : (f g : Data → Bool) (ds : Items) → any_item (λ r. f r || g r) ds ≡ (any_item f ds || any_item g ds)
+any_either f g no_items = refl
+any_either f g (item d ds) = rw (any_either f g ds) (four_or (f d) (g d) (any_item f ds) (any_item g ds))
+
+-- what isn't built, told first or last
+told_last : (n s u k : Bool) → ((u && true) || (n || (s || (k || false)))) ≡ (n || (s || (u || k)))
+told_last true s true k = refl
+told_last true s false k = refl
+told_last false true true k = refl
+told_last false true false k = refl
+told_last false false true k = refl
+told_last false false false true = refl
+told_last false false false false = refl
+
+-- a list of reads, or something else
+by_list : (d w : Data) (o : Option Items) → string_in (codes "do") d ≡ Some (codes "read") → get (codes "reads") d ≡ Some w → as_array w ≡ o
+    → is_misshapen false d ≡ (not (member_count d == 3) || (field_breaks wrong_kind true (kind.whole MAX_ID) (get (codes "snapshot") d) || reads_break (get (codes "reads") d)))
+by_list d w None word reads list = rw (word, reads, list) refl
+by_list d w (Some ds) word reads list =
+    rw (word, reads, list, any_either is_unbuilt_read (read_breaks wrong_kind true) ds)
+    (told_last (not (member_count d == 3)) (field_breaks wrong_kind true (kind.whole MAX_ID) (get (codes "snapshot") d)) (any_item is_unbuilt_read ds) (any_item (read_breaks wrong_kind true) ds))
+
+by_member : (d : Data) (o : Option Data) → string_in (codes "do") d ≡ Some (codes "read") → get (codes "reads") d ≡ o
+    → is_misshapen false d ≡ (not (member_count d == 3) || (field_breaks wrong_kind true (kind.whole MAX_ID) (get (codes "snapshot") d) || reads_break (get (codes "reads") d)))
+by_member d None word reads = rw (word, reads) refl
+by_member d (Some w) word reads = by_list d w (as_array w) word reads refl
+
+pub read_misshapen : (d : Data) (word : List ℕ) (b broken : Bool) → string_in (codes "do") d ≡ Some word → b ≡ bytes_eq word (codes "read") → b ≡ true
+    → broken ≡ (not (member_count d == 3) || (field_breaks wrong_kind true (kind.whole MAX_ID) (get (codes "snapshot") d) || reads_break (get (codes "reads") d))) → broken ≡ is_misshapen false d
+read_misshapen d word b broken has eq is e = e ∙ sym (by_member d (get (codes "reads") d) (has ∙ ap Some ((bytes_eq-Decides word (codes "read")).0 (sym eq ∙ is))) refl)

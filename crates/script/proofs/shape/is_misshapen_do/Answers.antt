@@ -1,0 +1,6 @@
+use Rattle.serde_json.specs.View.{view}
+use Rattle.script.proofs.ReadShape.{read_misshapen}
+use Rattle.script.proofs.shape.is_misshapen_do.Goals as goal
+
+pub returns-then-eq-16 : goal.returns-then-eq-16
+returns-then-eq-16 c = read_misshapen (view c.args.value.now) c.args.word.now c.eq-10.result c.lacks_members_of_read.result c.requires c.eq-10.ensures c.if-eq-16.true c.lacks_members_of_read.ensures
