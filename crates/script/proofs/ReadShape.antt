@@ -3,7 +3,7 @@ use Rattle.std.proofs.Common.{◌≡◌, ◌&&◌, ◌||◌, not, ℕ, List, Boo
 use Rattle.std.specs.Prelude.{◌==◌, codes}
 use Rattle.script.specs.declared.limits.TheConstants.{MAX_ID}
 use Rattle.script.specs.Parts.{member_count, string_in}
-use Rattle.script.specs.Reading.{reads_break}
+use Rattle.script.specs.Reading.{read_members_break}
 use Rattle.script.specs.Rows as kind
 use Rattle.script.specs.Rules.{any_item, field_breaks, is_misshapen, is_unbuilt_read, read_breaks, wrong_kind}
 use Rattle.std.specs.Str.{bytes_eq}
@@ -32,18 +32,15 @@ told_last false false false true = refl
 told_last false false false false = refl
 
 -- a list of reads, or something else
-by_list : (d w : Data) (o : Option Items) → string_in (codes "do") d ≡ Some (codes "read") → get (codes "reads") d ≡ Some w → as_array w ≡ o
-    → is_misshapen false d ≡ (not (member_count d == 3) || (field_breaks wrong_kind true (kind.whole MAX_ID) (get (codes "snapshot") d) || reads_break (get (codes "reads") d)))
+by_list : (d w : Data) (o : Option Items) → string_in (codes "do") d ≡ Some (codes "read") → get (codes "reads") d ≡ Some w → as_array w ≡ o → is_misshapen false d ≡ read_members_break d
 by_list d w None word reads list = rw (word, reads, list) refl
 by_list d w (Some ds) word reads list =
     rw (word, reads, list, any_either is_unbuilt_read (read_breaks wrong_kind true) ds)
     (told_last (not (member_count d == 3)) (field_breaks wrong_kind true (kind.whole MAX_ID) (get (codes "snapshot") d)) (any_item is_unbuilt_read ds) (any_item (read_breaks wrong_kind true) ds))
 
-by_member : (d : Data) (o : Option Data) → string_in (codes "do") d ≡ Some (codes "read") → get (codes "reads") d ≡ o
-    → is_misshapen false d ≡ (not (member_count d == 3) || (field_breaks wrong_kind true (kind.whole MAX_ID) (get (codes "snapshot") d) || reads_break (get (codes "reads") d)))
+by_member : (d : Data) (o : Option Data) → string_in (codes "do") d ≡ Some (codes "read") → get (codes "reads") d ≡ o → is_misshapen false d ≡ read_members_break d
 by_member d None word reads = rw (word, reads) refl
 by_member d (Some w) word reads = by_list d w (as_array w) word reads refl
 
-pub read_misshapen : (d : Data) (word : List ℕ) (b broken : Bool) → string_in (codes "do") d ≡ Some word → b ≡ bytes_eq word (codes "read") → b ≡ true
-    → broken ≡ (not (member_count d == 3) || (field_breaks wrong_kind true (kind.whole MAX_ID) (get (codes "snapshot") d) || reads_break (get (codes "reads") d))) → broken ≡ is_misshapen false d
+pub read_misshapen : (d : Data) (word : List ℕ) (b broken : Bool) → string_in (codes "do") d ≡ Some word → b ≡ bytes_eq word (codes "read") → b ≡ true → broken ≡ read_members_break d → broken ≡ is_misshapen false d
 read_misshapen d word b broken has eq is e = e ∙ sym (by_member d (get (codes "reads") d) (has ∙ ap Some ((bytes_eq-Decides word (codes "read")).0 (sym eq ∙ is))) refl)

@@ -21,7 +21,7 @@ use Rattle.machine.specs.declared.command.Opening.TheVariants as opening
 use Rattle.machine.specs.declared.command.Script.{Script}
 use Rattle.machine.specs.declared.reads.Read.{Read}
 use Rattle.machine.specs.declared.reads.Read.TheVariants as read
-use Rattle.script.specs.declared.limits.TheConstants.{MAX_SESSIONS, MAX_COMMANDS, MAX_READINGS, MAX_SAVES, MAX_FINDS, MAX_SHOWN, MAX_HITS, MAX_WATCHES, MAX_ID}
+use Rattle.script.specs.declared.limits.TheConstants.{MAX_SESSIONS, MAX_COMMANDS, MAX_READINGS, MAX_SAVES, MAX_FINDS, MAX_SHOWN, MAX_WATCHES, MAX_ID}
 use Rattle.script.specs.declared.refusal.ScriptRule.{ScriptRule}
 use Rattle.script.specs.declared.refusal.ScriptRule.TheVariants.{BadShape, TooMany, UnknownSnapshot, SnapshotTaken, BadNumber, BadEncoding, EmptyNeedle}
 use Rattle.script.specs.Limits.{has_built_read, has_built_word, IsRangeWithin, IsReadableRead, IsReadable, readings_of, is_find, is_watch, is_in_turn, are_in_turn, has_needle, has_needles, IsWithinLimits}
@@ -116,9 +116,7 @@ place_more d h =
 read_is_built : (r : Read) → has_built_read r ≡ true → is_unbuilt_read (read_value r) ≡ false
 read_is_built read.Size h = refl
 read_is_built (read.Text range limit) h = refl
-read_is_built (read.Find needle limit) h = refl
-read_is_built (read.Pattern pattern limit) h = refl
-read_is_built (read.Save name encoding) h = absurd (false≢true h)
+read_is_built r h = absurd (false≢true h)
 
 reads_are_built : (rs : List Read) → list_all has_built_read rs ≡ true → any_item is_unbuilt_read (items_of (map read_value rs)) ≡ false
 reads_are_built [] h = refl
@@ -207,9 +205,7 @@ range_first r rest e = let parts = or_false (not (is_some (range_of (range_value
 read_readable : (r : Read) → has_built_read r ≡ true → read_breaks wrong_number false (read_value r) ≡ false → IsReadableRead r
 read_readable read.Size built e = tt
 read_readable (read.Text range limit) built e = let first = range_first range _ e in (first.0, (whole_first MAX_SHOWN limit false first.1).0)
-read_readable (read.Find needle limit) built e = (whole_first MAX_HITS limit false e).0
-read_readable (read.Pattern pattern limit) built e = (whole_first MAX_HITS limit false e).0
-read_readable (read.Save name encoding) built e = absurd (false≢true built)
+read_readable r built e = absurd (false≢true built)
 
 reads_readable : (rs : List Read) → list_all has_built_read rs ≡ true → any_item (read_breaks wrong_number false) (items_of (map read_value rs)) ≡ false → AllByRecursion IsReadableRead rs
 reads_readable [] built e = tt

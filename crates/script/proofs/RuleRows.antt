@@ -1,9 +1,11 @@
 -- The rules of a script on small values, worked out by computing.
-use Rattle.std.proofs.Common.{◌≡◌, ℕ, List, [], ◌∷◌, true, Option, Some, None, refl}
+use Rattle.std.proofs.Common.{◌≡◌, ℕ, List, [], ◌∷◌, true, false, Option, Some, None, refl}
 use Rattle.std.specs.Prelude.{codes}
 use Rattle.std.specs.Str.{chars}
 use Rattle.script.specs.declared.refusal.ScriptRule.{ScriptRule}
 use Rattle.script.specs.declared.refusal.ScriptRule.TheVariants.{BadShape, TooMany, UnknownSnapshot, SnapshotTaken, BadNumber, BadEncoding, EmptyNeedle, BadName}
+use Rattle.machine.specs.declared.command.Command.TheVariants as command
+use Rattle.script.specs.Limits.{are_in_turn}
 use Rattle.script.specs.Parts.{range_of}
 use Rattle.script.specs.Rules.{at_start, command_tests, first_broken, Fault, value_place, place_by}
 use Rattle.script.specs.TranscriptDocument.{whole}
@@ -143,3 +145,22 @@ a_file = refl
 unknown_encoding : place (object (with (codes "file") (string (codes "a")) (with (codes "encoding") (string (codes "ascii")) no_members))) (item (session no_items) no_items) ≡ Some (0, 0, BadEncoding)
 unfolding place place_by range_of chars
 unknown_encoding = refl
+
+-- The same command by what is built: a read that isn't breaks the rule of shape, before a number that isn't live.
+built_broken : Data → Option ScriptRule
+built_broken d = first_broken (command_tests false (record at_start { live = 7 ∷ [] }) d)
+
+save_is_unbuilt : built_broken (reading 8 (item (save (codes "a") (codes "utf8")) no_items)) ≡ Some BadShape
+unfolding built_broken range_of
+save_is_unbuilt = refl
+
+find_is_unbuilt : built_broken (reading 7 (item (find (codes "b") 1000) no_items)) ≡ Some BadShape
+unfolding built_broken range_of
+find_is_unbuilt = refl
+
+-- a number that was ended may be taken again, and one that is live may not
+taken_after_release : are_in_turn [] (command.Take 1 ∷ command.Release 1 ∷ command.Take 1 ∷ []) ≡ true
+taken_after_release = refl
+
+taken_twice : are_in_turn [] (command.Take 1 ∷ command.Take 1 ∷ []) ≡ false
+taken_twice = refl

@@ -11,14 +11,14 @@ use Rattle.machine.specs.declared.command.How.{How}
 use Rattle.machine.specs.declared.command.How.TheVariants as how
 use Rattle.machine.specs.declared.reads.Read.{Read}
 use Rattle.machine.specs.declared.reads.Read.TheVariants as read
-use Rattle.script.specs.declared.limits.TheConstants.{MAX_SHOWN, MAX_HITS, MAX_ID}
+use Rattle.script.specs.declared.limits.TheConstants.{MAX_SHOWN, MAX_ID}
 use Rattle.script.specs.Limits.{has_needle, has_needles}
 use Rattle.script.specs.Parts.{member_count, items_in, string_in, whole_of, range_of, is_word}
 use Rattle.script.specs.Rows as kind
 use Rattle.script.specs.Rows.{Kind, Field, how_words}
 use Rattle.script.specs.Rules.{command_breaks, read_breaks, fields_break, any_field_breaks, field_breaks, with_reads, wrong_kind, wrong_number, wrong_encoding, empty_needle, wrong_name, any_item, save_name, names_in, reads_in, is_misshapen, is_unbuilt_read, built_words, built_reads, is_one_of}
-use Rattle.script.specs.ScriptDocument.{edit_of, look_of, ranged_of, bare_of, unmark_of, mark_range_of, exclusive_of, compare_of, mark_of, how_of, marks_of, watch_of, unwatch_of, on_marks_of, size_of, look_read_of, find_of, pattern_of, read_of, reads_of, take_of, read_command_of, release_of, on_snapshots_of, on_text_of, command_of}
-use Rattle.script.proofs.RuleLemmas.{or_false, there, no_empty}
+use Rattle.script.specs.ScriptDocument.{edit_of, look_of, ranged_of, bare_of, unmark_of, mark_range_of, exclusive_of, compare_of, mark_of, how_of, marks_of, watch_of, unwatch_of, on_marks_of, size_of, look_read_of, read_of, reads_of, take_of, read_command_of, release_of, on_snapshots_of, on_text_of, command_of}
+use Rattle.script.proofs.RuleLemmas.{or_false, there}
 use Rattle.script.proofs.ScriptExact.{word_exact}
 use Rattle.serde_json.specs.Data.{Data, Items, no_items, item}
 use Rattle.serde_json.specs.Find.{get, as_str, as_bool, as_array}
@@ -172,65 +172,6 @@ look_read_shaped d kinds word =
     let v = has.1.1.0 in
     shaped_read d fs _ row refl (looked_plain (range_of r.value) (whole_of MAX_SHOWN v.value)) (look_read_by d r.value v.value _ _ has.0 word r.is v.is refl refl) (rw word refl)
 
-abbrev sought : (List ℕ → ℕ → Read) → List ℕ → Option ℕ → Option Read
-sought make s p = option_map (make s) p
-
-pattern_by : (d v w : Data) (s : List ℕ) (p : Option ℕ) → member_count d ≡ 3 → string_in (codes "get") d ≡ Some (codes "pattern") → get (codes "pattern") d ≡ Some v → get (codes "limit") d ≡ Some w → as_str v ≡ Some s → whole_of MAX_HITS w ≡ p
-    → (read_of d ≡ sought read.Pattern s p) × (read_breaks wrong_number false d ≡ not (is_some (sought read.Pattern s p)))
-unfolding read_of pattern_of
-pattern_by d v w s None n word pattern limit is at = (rw (n, word, pattern, limit, is, at) refl, rw (word, pattern, limit, at) refl)
-pattern_by d v w s (Some m) n word pattern limit is at = (rw (n, word, pattern, limit, is, at) refl, rw (word, pattern, limit, at) refl)
-
-pattern_plain : (s : List ℕ) (p : Option ℕ) → IsPlainRead (sought read.Pattern s p)
-pattern_plain s None = tt
-pattern_plain s (Some n) = refl
-
-pattern_shaped : (d : Data) → read_breaks wrong_kind true d ≡ false → string_in (codes "get") d ≡ Some (codes "pattern") → IsShapedRead d
-pattern_shaped d kinds word =
-    let fs : List Field = (codes "pattern", kind.text) ∷ (codes "limit", kind.whole MAX_HITS) ∷ [] in
-    let row : HasReadRow d fs = λ test shape. rw word refl in
-    let has = fields_there wrong_kind 3 d fs refl (sym (row wrong_kind true) ∙ kinds) in
-    let v = has.1.0 in
-    let w = has.1.1.0 in
-    let s = there (as_str v.value) v.kind in
-    shaped_read d fs _ row refl (pattern_plain s.0 (whole_of MAX_HITS w.value)) (pattern_by d v.value w.value s.0 _ has.0 word v.is w.is s.1 refl) (rw word refl)
-
-find_by : (d v w : Data) (s : List ℕ) (p : Option ℕ) → member_count d ≡ 3 → string_in (codes "get") d ≡ Some (codes "find") → get (codes "needle") d ≡ Some v → get (codes "limit") d ≡ Some w → as_str v ≡ Some s → whole_of MAX_HITS w ≡ p
-    → (read_of d ≡ sought read.Find s p) × (read_breaks wrong_number false d ≡ not (is_some (sought read.Find s p)))
-unfolding read_of find_of
-find_by d v w s None n word needle limit is at = (rw (n, word, needle, limit, is, at) refl, rw (word, needle, limit, at) refl)
-find_by d v w s (Some m) n word needle limit is at = (rw (n, word, needle, limit, is, at) refl, rw (word, needle, limit, at) refl)
-
-nothing_sought : (s : List ℕ) → (bytes_eq s [] || false) ≡ not (not (length s == 0))
-nothing_sought [] = refl
-nothing_sought (b ∷ s) = rw (no_empty b s) refl
-
-find_needle : (s : List ℕ) (p : Option ℕ) (b : Bool) → b ≡ (bytes_eq s [] || false) → NeedleIs (sought read.Find s p) b
-find_needle s None b e = tt
-find_needle s (Some n) b e = e ∙ nothing_sought s
-
-record IsFind (d : Data) (s : List ℕ) : Type 0 where
-  encoding : read_breaks wrong_encoding false d ≡ false
-  needle : read_breaks empty_needle false d ≡ (bytes_eq s [] || false)
-  name : read_breaks wrong_name false d ≡ false
-  names : save_name d ≡ None
-
-find_tests : (d v w : Data) (s : List ℕ) → string_in (codes "get") d ≡ Some (codes "find") → get (codes "needle") d ≡ Some v → get (codes "limit") d ≡ Some w → as_str v ≡ Some s → IsFind d s
-find_tests d v w s word needle limit is = record { encoding = rw (word, needle, limit) refl; needle = rw (word, needle, limit, is) refl; name = rw (word, needle, limit) refl; names = rw word refl }
-
-find_shaped : (d : Data) → read_breaks wrong_kind true d ≡ false → string_in (codes "get") d ≡ Some (codes "find") → IsShapedRead d
-find_shaped d kinds word =
-    let fs : List Field = (codes "needle", kind.needle) ∷ (codes "limit", kind.whole MAX_HITS) ∷ [] in
-    let row : HasReadRow d fs = λ test shape. rw word refl in
-    let has = fields_there wrong_kind 3 d fs refl (sym (row wrong_kind true) ∙ kinds) in
-    let v = has.1.0 in
-    let w = has.1.1.0 in
-    let s = there (as_str v.value) v.kind in
-    let by = find_by d v.value w.value s.0 _ has.0 word v.is w.is s.1 refl in
-    let tests = find_tests d v.value w.value s.0 word v.is w.is s.1 in
-    record { found = _; read = by.0; number = by.1; encoding = tests.encoding; needle = find_needle s.0 (whole_of MAX_HITS w.value) _ tests.needle; name = tests.name; names = tests.names }
-
--- one of these words
 one_word : (P : Type 0) (o : Option (List ℕ)) (w : List ℕ) (rest b : Bool) → is_word o w ≡ b → (o ≡ Some w → P) → (rest ≡ true → P) → (b || rest) ≡ true → P
 one_word P o w rest true is first others h = first (word_exact o w is)
 one_word P o w rest false is first others h = others h
@@ -241,7 +182,7 @@ by_words P o (w ∷ ws) each h = one_word P o w (is_one_of ws o) (is_word o w) r
 
 read_shaped : (d : Data) → is_unbuilt_read d ≡ false → read_breaks wrong_kind true d ≡ false → IsShapedRead d
 read_shaped d built kinds =
-    by_words (IsShapedRead d) (string_in (codes "get") d) built_reads (size_shaped d kinds, (look_read_shaped d kinds, (find_shaped d kinds, (pattern_shaped d kinds, tt)))) (not-false (is_one_of built_reads (string_in (codes "get") d)) built)
+    by_words (IsShapedRead d) (string_in (codes "get") d) built_reads (size_shaped d kinds, (look_read_shaped d kinds, tt)) (not-false (is_one_of built_reads (string_in (codes "get") d)) built)
 
 -- what reads of the right shape are
 record AreShapedReads (ds : Items) : Type 0 where

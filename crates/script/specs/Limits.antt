@@ -4,7 +4,7 @@ use Rattle.std.specs.List.{AllByRecursion, list_all, list_any}
 use Rattle.points.specs.declared.limits.TheConstants.{MAX_UNITS, MAX_COORD, MAX_HANDS}
 use Rattle.points.specs.declared.range.Range.{Range}
 use Rattle.points.specs.Point.{IsWithin}
-use Rattle.script.specs.declared.limits.TheConstants.{MAX_COMMANDS, MAX_READINGS, MAX_FINDS, MAX_WATCHES, MAX_SHOWN, MAX_HITS, MAX_ID}
+use Rattle.script.specs.declared.limits.TheConstants.{MAX_COMMANDS, MAX_READINGS, MAX_FINDS, MAX_WATCHES, MAX_SHOWN, MAX_ID}
 use Rattle.machine.specs.declared.command.Command.{Command}
 use Rattle.machine.specs.declared.command.Command.TheVariants as command
 use Rattle.machine.specs.declared.command.Script.{Script}
@@ -17,8 +17,9 @@ use Rattle.machine.specs.Plain.{live_after, are_live}
 
 -- a read whose word is built
 abbrev pub has_built_read : Read → Bool
-has_built_read (read.Save name encoding) = false
-has_built_read r = true
+has_built_read read.Size = true
+has_built_read (read.Text range limit) = true
+has_built_read r = false
 
 -- a command whose word is built, and those of its reads
 abbrev pub has_built_word : Command → Bool
@@ -51,9 +52,7 @@ pub record IsRangeWithin (r : Range) : Type 0 where
 abbrev pub IsReadableRead : Read → Type 0
 IsReadableRead read.Size = Unit {0}
 IsReadableRead (read.Text range limit) = IsRangeWithin range × (limit ≤ MAX_SHOWN)
-IsReadableRead (read.Find needle limit) = limit ≤ MAX_HITS
-IsReadableRead (read.Pattern pattern limit) = limit ≤ MAX_HITS
-IsReadableRead (read.Save name encoding) = ⊥
+IsReadableRead r = ⊥
 
 -- a command that is built, its numbers within their limits
 abbrev pub IsReadable : Command → Type 0

@@ -1,21 +1,22 @@
 -- What a function that reads a part of a JSON value answers, and what a reader counts.
-use Rattle.std.specs.Prelude.{◌≡◌, ◌≤◌, ◌||◌, not, ℕ, List, [], ◌∷◌, Bool, true, false, Option, Some, None, is_some, Result, Ok, Err}
+use Rattle.std.specs.Prelude.{◌≡◌, ◌≤◌, ◌==◌, ◌||◌, not, ℕ, List, [], ◌∷◌, Bool, true, false, Option, Some, None, is_some, Result, Ok, Err, codes}
 use Rattle.machine.specs.declared.command.Command.{Command}
 use Rattle.machine.specs.declared.command.Opening.TheVariants as opening
 use Rattle.machine.specs.declared.command.Script.{Script}
 use Rattle.script.specs.declared.before.Before.{Before}
 use Rattle.script.specs.declared.before.CommandFault.{CommandFault}
 use Rattle.script.specs.declared.before.CommandFault.TheVariants as fault
-use Rattle.script.specs.declared.limits.TheConstants.{MAX_COMMANDS, MAX_READINGS, MAX_FINDS, MAX_WATCHES}
+use Rattle.script.specs.declared.limits.TheConstants.{MAX_COMMANDS, MAX_READINGS, MAX_FINDS, MAX_WATCHES, MAX_ID}
 use Rattle.script.specs.declared.parts.Misfit.{Misfit}
 use Rattle.script.specs.declared.parts.Misfit.TheVariants.{Shape, NoMemory}
 use Rattle.script.specs.declared.refusal.ScriptRule.{ScriptRule}
-use Rattle.script.specs.Parts.{items_in}
+use Rattle.script.specs.Parts.{items_in, member_count}
+use Rattle.script.specs.Rows as kind
 use Rattle.script.specs.Rules as rules
-use Rattle.script.specs.Rules.{at_start, next, names_in, reads_in, is_too_many, any_item, is_unbuilt_read, read_breaks, wrong_kind, command_tests, first_broken}
+use Rattle.script.specs.Rules.{at_start, next, names_in, reads_in, is_too_many, any_item, is_unbuilt_read, read_breaks, field_breaks, wrong_kind, command_tests, first_broken}
 use Rattle.script.specs.ScriptDocument.{command_of}
 use Rattle.serde_json.specs.Data.{Data}
-use Rattle.serde_json.specs.Find.{as_array}
+use Rattle.serde_json.specs.Find.{get, as_array}
 
 -- the part isn't there, or memory ran out
 abbrev pub Fails : {X : Type 0} → Misfit → Option X → Type 0
@@ -47,6 +48,10 @@ pub record HasRoom (b : Before) (d : Data) : Type 0 where
 abbrev pub reads_break : Option Data → Bool
 reads_break None = true
 reads_break (Some d) = not (is_some (as_array d)) || any_item (λ r. is_unbuilt_read r || read_breaks wrong_kind true r) (items_in d)
+
+-- the members of a command that reads a snapshot are broken, or one of its reads isn't built
+abbrev pub read_members_break : Data → Bool
+read_members_break d = not (member_count d == 3) || (field_breaks wrong_kind true (kind.whole MAX_ID) (get (codes "snapshot") d) || reads_break (get (codes "reads") d))
 
 -- a command that breaks no rule was read, and counted
 pub record IsRead (old new : Before) (d : Data) (c : Command) : Type 0 where

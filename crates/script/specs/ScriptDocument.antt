@@ -14,7 +14,7 @@ use Rattle.script.specs.declared.refusal.ScriptRefusal.{ScriptRefusal}
 use Rattle.script.specs.declared.refusal.ScriptRefusal.TheVariants.{Refused, NoMemory}
 use Rattle.script.specs.declared.refusal.ScriptRule.TheVariants.{NotJson}
 use Rattle.script.specs.Parts.{member_count, item_count, string_in, whole_in, flag_in, is_word, range_in}
-use Rattle.script.specs.declared.limits.TheConstants.{MAX_SHOWN, MAX_HITS, MAX_ID}
+use Rattle.script.specs.declared.limits.TheConstants.{MAX_SHOWN, MAX_ID}
 use Rattle.script.specs.Rules.{Fault, is_on_marks, is_on_snapshots, is_version_one, built_place}
 use Rattle.serde_json.specs.Data.{Data, Items, no_items, item}
 use Rattle.serde_json.specs.Find.{get, at, as_array}
@@ -95,18 +95,10 @@ size_of d = if member_count d == 1 then Some read.Size else None
 unfoldable pub look_read_of : Data → Option Read
 look_read_of d = if member_count d == 3 then option_and_then (λ range. option_map (read.Text range) (whole_in MAX_SHOWN (codes "limit") d)) (range_in d) else None
 
-unfoldable pub find_of : Data → Option Read
-find_of d = if member_count d == 3 then option_and_then (λ needle. option_map (read.Find needle) (whole_in MAX_HITS (codes "limit") d)) (string_in (codes "needle") d) else None
-
-unfoldable pub pattern_of : Data → Option Read
-pattern_of d = if member_count d == 3 then option_and_then (λ pattern. option_map (read.Pattern pattern) (whole_in MAX_HITS (codes "limit") d)) (string_in (codes "pattern") d) else None
-
 unfoldable pub read_of : Data → Option Read
 read_of d =
     if is_word (string_in (codes "get") d) (codes "size") then size_of d
-    else (if is_word (string_in (codes "get") d) (codes "text") then look_read_of d
-    else (if is_word (string_in (codes "get") d) (codes "find") then find_of d
-    else (if is_word (string_in (codes "get") d) (codes "pattern") then pattern_of d else None)))
+    else (if is_word (string_in (codes "get") d) (codes "text") then look_read_of d else None)
 
 abbrev pub reads_of : Items → Option (List Read)
 reads_of no_items = Some []

@@ -9,8 +9,8 @@ pub enum ScriptRule {
     NotJson,
     /// A key is missing or unknown, a value has another JSON kind, or a word is unknown.
     BadShape,
-    /// There are more sessions, commands, readings, saves, watchers or snapshots than a script may have, or the
-    /// opening text is too long.
+    /// There are more sessions, commands, readings, finds of marks, saves, watchers or snapshots than a script may
+    /// have, or the opening text is too long.
     TooMany,
     /// A snapshot is read, sent or released whose number isn't live.
     UnknownSnapshot,

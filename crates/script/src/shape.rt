@@ -3,12 +3,12 @@
 ghost use Rattle.std.specs.Prelude.{◌≡◌, ◌==◌, ◌&&◌, ◌||◌, not, codes, true, false, Some};
 ghost use Rattle.serde_json.specs.Find.{get};
 ghost use Rattle.serde_json.specs.View.{view, items_view};
-ghost use Rattle.script.specs.declared.limits.TheConstants.{MAX_SHOWN, MAX_HITS, MAX_ID};
-ghost use Rattle.script.specs.Parts.{count_items, member_count, string_in};
+ghost use Rattle.script.specs.declared.limits.TheConstants.{MAX_SHOWN, MAX_ID};
+ghost use Rattle.script.specs.Parts.{count_items, string_in};
 ghost use Rattle.script.specs.Rows as kind;
 ghost use Rattle.script.specs.Rules.{field_breaks, with_reads, read_breaks, wrong_kind, is_misshapen, is_unbuilt_read, is_number, any_item, is_one_of};
 ghost use Rattle.script.specs.Rows.{how_words};
-ghost use Rattle.script.specs.Reading.{reads_break};
+ghost use Rattle.script.specs.Reading.{reads_break, read_members_break};
 
 use crate::parts::member_count;
 use serde_json::Value;
@@ -58,28 +58,9 @@ fn lacks_text(value: &Value, key: &str) -> bool
     }
 }
 
-// Whether the member `needle` is a string.
-fn lacks_needle(value: &Value) -> bool
-    ensures { result ≡ field_breaks wrong_kind true kind.needle (get (codes "needle") (view value.now)) }
-{
-    match value.get("needle") {
-        Some(needle) => needle.as_str().is_none(),
-        None => true,
-    }
-}
-
-// Whether the member `limit` is a number: of units that are shown, or of hits.
+// Whether the member `limit` is a number.
 fn lacks_limit(value: &Value) -> bool
     ensures { result ≡ field_breaks wrong_kind true (kind.whole MAX_SHOWN) (get (codes "limit") (view value.now)) }
-{
-    match value.get("limit") {
-        Some(limit) => limit.as_number().is_none(),
-        None => true,
-    }
-}
-
-fn lacks_hits(value: &Value) -> bool
-    ensures { result ≡ field_breaks wrong_kind true (kind.whole MAX_HITS) (get (codes "limit") (view value.now)) }
 {
     match value.get("limit") {
         Some(limit) => limit.as_number().is_none(),
@@ -144,12 +125,6 @@ fn is_misshapen_get(word: &str, value: &Value) -> bool
     if word == "text" {
         return member_count(value) != 3 || lacks_range(value) || lacks_limit(value);
     }
-    if word == "find" {
-        return member_count(value) != 3 || lacks_needle(value) || lacks_hits(value);
-    }
-    if word == "pattern" {
-        return member_count(value) != 3 || lacks_text(value, "pattern") || lacks_hits(value);
-    }
     true
 }
 
@@ -193,7 +168,7 @@ fn lacks_reads(value: &Value) -> bool
 
 // Whether the members of a command that reads a snapshot are broken, or one of its reads isn't built.
 fn lacks_members_of_read(value: &Value) -> bool
-    ensures { result ≡ (not (member_count (view value.now) == 3) || (field_breaks wrong_kind true (kind.whole MAX_ID) (get (codes "snapshot") (view value.now)) || reads_break (get (codes "reads") (view value.now)))) }
+    ensures { result ≡ read_members_break (view value.now) }
 {
     member_count(value) != 3 || lacks_id(value, "snapshot") || lacks_reads(value)
 }
