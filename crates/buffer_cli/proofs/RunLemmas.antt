@@ -26,7 +26,8 @@ use Rattle.machine.proofs.StepLemmas.{step_counts}
 use Rattle.buffer.specs.Reads.{is_own_read, has_number, without_first}
 use Rattle.buffer.specs.Sound.{IsSound}
 use Rattle.buffer.proofs.SoundLemmas.{sound_step}
-use Rattle.buffer_cli.specs.Answered.{answered, held_after, is_answered, is_held, is_watch, watches_in}
+use Rattle.script.specs.Limits.{is_watch}
+use Rattle.buffer_cli.specs.Answered.{answered, held_after, is_answered, is_held, watches_in}
 
 drop_none : {X : Type 0} (n : ℕ) (xs : List X) → xs ≡ [] → drop n xs ≡ []
 drop_none n xs none = rw none (drop_of_length-le [] {i = n} (omega arith))

@@ -7,6 +7,7 @@ use Rattle.machine.specs.declared.reply.Reply.{Reply}
 use Rattle.machine.specs.Machine.{State}
 use Rattle.machine.specs.Answers.{call_of}
 use Rattle.machine.specs.Plain.{Kept, after_call, plain_reply}
+use Rattle.script.specs.Limits.{is_watch}
 use Rattle.buffer.specs.Reads.{is_own_read, has_number, without_first}
 
 -- the state after a command, and the reply to it in a transcript of version 1, with these snapshots
@@ -31,10 +32,6 @@ abbrev pub is_held : List Kept → Command → Bool
 is_held held (command.Read k reads) = is_some (find (has_number k) held)
 is_held held _ = true
 
--- how many watchers a command attaches
-abbrev pub is_watch : Command → Bool
-is_watch (command.Watch id) = true
-is_watch _ = false
-
+-- how many watchers these commands attach
 abbrev pub watches_in : List Command → ℕ
 watches_in cs = count_by is_watch cs
