@@ -11,5 +11,5 @@ mod replayed;
 mod rising;
 mod same;
 
-pub use check::replay_calls;
+pub use check::{has_few_commands, replay_calls};
 pub use replayed::Replayed;
