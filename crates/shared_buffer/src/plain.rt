@@ -1,0 +1,35 @@
+//! What can be shared.
+ghost use Rattle.std.specs.Prelude.{◌≡◌, ◌<◌, ℕ, true, [], IfOk, OnErr};
+ghost use Rattle.machine.specs.Machine.{State};
+ghost use Rattle.machine.specs.Answers.{call_of};
+ghost use Rattle.machine.specs.Plain.{after_call, plain_reply};
+ghost use Rattle.shared_buffer.specs.Entries.{is_plain};
+
+use machine::{Command, Reply};
+use points::{LAST, NoMemory};
+use std::alloc::Global;
+
+/// A buffer of one thread that follows the plain machine.
+pub trait PlainBuffer: Drop {
+    ghost state: { Self → State };
+
+    // What is true of it between calls.
+    ghost IsFit: { Self → Type 0 };
+
+    // The version of a transcript in whose form it replies.
+    ghost version: { ℕ };
+
+    /// How many calls were numbered.
+    fn count(&self) -> u64
+        ensures { result ≡ (state self.now).count };
+
+    /// Plays a numbered call that brings no watcher. A call that finds no memory changes nothing.
+    fn play(&mut self, alloc: Global, command: &Command) -> Result<Reply, NoMemory>
+        requires plain { is_plain command.now ≡ true }
+        requires count { (state self.old).count < LAST }
+        requires fit { IsFit self.old }
+        ensures state { IfOk result (λ reply. state self.new ≡ after_call (state self.old) (call_of command.now)) }
+        ensures reply { IfOk result (λ reply. reply ≡ plain_reply version (state self.old) [] [] command.now) }
+        ensures err { OnErr result (state self.new ≡ state self.old) }
+        ensures fit { IsFit self.new };
+}

@@ -1,0 +1,182 @@
+//! The shared buffer and its calls.
+ghost use Rattle.std.specs.Prelude.{◌≡◌, ℕ, ◌≤◌, true, IfOk, IfErr, IfSome, option_map, [], ◌∷◌};
+ghost use Rattle.turn_table.specs.declared.view.View.{View};
+ghost use Rattle.turn_table.specs.Meaning.{MayFollow};
+ghost use Rattle.turn_table.specs.Openings.{AreDealt, new_desk};
+ghost use Rattle.turn_table.specs.Calls.{Turned, Joined};
+ghost use Rattle.shared_buffer.specs.Entries.{Entry, Shared, is_plain, Meets};
+ghost use Rattle.turn_table.specs.Given.{seat_in};
+ghost use Rattle.shared_buffer.specs.Calls.{reply_in, hand_number, given};
+ghost use Rattle.shared_buffer.specs.Tokens.{IsDeskOf, IsSeatOf, Called, Stays, IsSpent, IsHanded, IsFull, rules};
+
+use crate::call::{Call, Numbered, Reply};
+use crate::held::Held;
+use crate::plain::PlainBuffer;
+use crate::told::{Shown, Told};
+use machine::Command;
+use points::NoMemory;
+use std::alloc::Global;
+use std::marker::Model;
+use std::sync::Wait;
+use turn_table::{HandSeat, Tokens, TurnTable};
+
+/// A desk, from which a session calls. It has no bytes, and can go to another thread.
+pub type Desk = turn_table::Desk<Told, Shown>;
+
+/// A hand, which can hold one snapshot. It must be given back, or retired.
+pub struct Hand {
+    pub seat: HandSeat<Told, Shown>,
+    pub number: u32,
+}
+
+impl Hand {
+    /// Spends the hand without a call. Its number stays out for good.
+    pub fn retire(self) {
+        let Hand { seat, number: _ } = self;
+        drop(seat);
+    }
+}
+
+/// Why a numbered call has no number.
+#[derive(Clone, Copy, Debug, PartialEq, Eq)]
+pub enum Refusal {
+    /// The last number is given.
+    Spent,
+    /// There was no memory.
+    NoMemory,
+}
+
+/// Why there is no hand.
+#[derive(Clone, Copy, Debug, PartialEq, Eq)]
+pub enum HandRefusal {
+    /// All 32 are out.
+    HandsFull,
+    /// There was no memory.
+    NoMemory,
+}
+
+/// A buffer that many sessions share. Contracts see what it began with.
+#[derive(Drop)]
+pub struct SharedBuffer<B: PlainBuffer + Send> {
+    table: TurnTable<Held<B>>,
+}
+
+impl<B: PlainBuffer + Send> Model for SharedBuffer<B> {
+    ghost use Rattle.turn_table.specs.Given.{seat_in};
+ghost use Rattle.shared_buffer.specs.Calls.{reply_in, hand_number, given};
+ghost use Rattle.shared_buffer.specs.Tokens.{Opening};
+
+    ghost Value = { Opening };
+
+    ghost view = { λ b. record { table = b.table.table.shared.table_id; start = b.table.table.shared.key.object.value; desks = b.table.table.shared.key.desks; version = B.version } };
+}
+
+/// A shared buffer with its desks, in the order of their numbers.
+#[derive(Drop)]
+pub struct Started<B: PlainBuffer + Send> {
+    pub buffer: SharedBuffer<B>,
+    pub desks: Vec<Desk>,
+}
+
+impl<B: PlainBuffer + Send> SharedBuffer<B> {
+    /// A buffer to be shared by so many desks, numbered from 0. No hand is out.
+    pub fn start(alloc: Global, buffer: B, desks: u32) -> Result<Started<B>, NoMemory>
+        requires fit { B.IsFit buffer }
+        requires desks { (1 ≤ desks) × (desks ≤ 64) }
+        ensures start { IfOk result (λ s. (s.buffer.start.plain ≡ B.state buffer) × (s.buffer.desks ≡ desks) × (s.buffer.version ≡ B.version)) }
+        ensures desks { IfOk result (λ s. AreDealt s.buffer.table new_desk desks s.desks.items) }
+    {
+        match TurnTable::new(alloc, Held::new(alloc, buffer, 0), desks, 0) {
+            Ok(Tokens {
+                table,
+                desks,
+                hands: _,
+            }) => Ok(Started {
+                buffer: SharedBuffer { table },
+                desks,
+            }),
+            Err(_) => Err(NoMemory),
+        }
+    }
+
+    /// Plays a numbered call that brings no watcher, and waits for its turn.
+    pub fn play<R: Wait>(
+        &self,
+        rt: &R,
+        desk: &mut Desk,
+        command: Command,
+    ) -> Result<machine::Reply, Refusal>
+        requires plain { is_plain command ≡ true }
+        requires desk { IsDeskOf self.now desk.old }
+        ensures desk { IsDeskOf self.now desk.new }
+        ensures ok { IfOk result (λ r. Turned (Called self.now command r) desk.old.views desk.new.views) }
+        ensures spent { IfErr result (λ no. no ≡ Refusal.Spent → Turned (IsSpent self.now) desk.old.views desk.new.views) }
+        ensures err { IfErr result (λ no. Turned (Stays self.now) desk.old.views desk.new.views) }
+    {
+        match self.table.with(rt, desk, Call::Play(Numbered { command })) {
+            Ok(reply) => match played(reply) {
+                Some(reply) => Ok(reply),
+                None => Err(Refusal::Spent),
+            },
+            Err(_) => Err(Refusal::NoMemory),
+        }
+    }
+
+    /// Makes a hand, which gets the lowest number that isn't out.
+    pub fn hand<R: Wait>(&self, rt: &R, desk: &mut Desk) -> Result<Hand, HandRefusal>
+        requires desk { IsDeskOf self.now desk.old }
+        ensures desk { IsDeskOf self.now desk.new }
+        ensures ok { IfOk result (λ h. IsSeatOf self.now h.number h.seat × Turned (IsHanded self.now h.number) desk.old.views desk.new.views) }
+        ensures full { IfErr result (λ no. no ≡ HandRefusal.HandsFull → Turned (IsFull self.now) desk.old.views desk.new.views) }
+        ensures err { IfErr result (λ no. Turned (Stays self.now) desk.old.views desk.new.views) }
+    {
+        match self.table.with(rt, desk, Call::Hand) {
+            Ok(reply) => match made(reply) {
+                Some(hand) => Ok(hand),
+                None => Err(HandRefusal::HandsFull),
+            },
+            Err(_) => Err(HandRefusal::NoMemory),
+        }
+    }
+
+    /// Gives a hand back. It takes no memory.
+    pub fn hand_back<R: Wait>(&self, rt: &R, hand: Hand)
+        requires { IsSeatOf self.now hand.number hand.seat }
+    {
+        let Hand { mut seat, number } = hand;
+        let _ = self
+            .table
+            .with_hand(rt, &mut seat, Call::GiveBack(number));
+    }
+
+    /// Ends a desk into another, which then stands for the desk numbers of both. It waits for nobody.
+    pub fn end(&self, desk: Desk, into: &mut Desk)
+        requires desk { IsDeskOf self.now desk }
+        requires into { IsDeskOf self.now into.old }
+        ensures into { IsDeskOf self.now into.new }
+        ensures joined { (other : View Entry Shared) → desk.views ≡ other ∷ [] → Turned (λ v w. Joined (rules self.now) (MayFollow (rules self.now) Meets) self.now.start self.now.desks v other w) into.old.views into.new.views }
+    {
+        self.table.end(desk, into);
+    }
+}
+
+// The reply to a numbered call, where it has a number.
+fn played(reply: Reply) -> Option<machine::Reply>
+    ensures { result ≡ reply_in reply }
+{
+    match reply {
+        Reply::Played(reply) => Some(reply),
+        _ => None,
+    }
+}
+
+// The hand that was made, where one was.
+fn made(reply: Reply) -> Option<Hand>
+    ensures number { option_map (λ h. h.number) result ≡ hand_number reply }
+    ensures seat { IfSome result (λ h. given reply ≡ seat_in h.seat.table_id h.seat.views) }
+{
+    match reply {
+        Reply::Hand(seat, number) => Some(Hand { seat, number }),
+        _ => None,
+    }
+}
