@@ -5,7 +5,11 @@ use Rattle.std.proofs.Math.ListN.{get_or-append}
 use Rattle.atomic_table.specs.declared.badge.Badge.{Badge}
 use Rattle.turn_table.specs.Views.{part}
 use Rattle.turn_table.specs.Openings.{AreDealt, new_desk}
+use Rattle.machine.specs.declared.command.Command.{Command}
+use Rattle.machine.specs.declared.command.Command.TheVariants as command
 use Rattle.machine.specs.declared.reply.Reply.{Reply}
+use Rattle.machine.specs.Answers.{call_of}
+use Rattle.shared_buffer.specs.Entries.{is_plain}
 use Rattle.machine.specs.Machine.{State, Call}
 use Rattle.machine.specs.Plain.{said}
 use Rattle.shared_buffer.specs.Tokens.{Opening, Known, IsDeskOf}
@@ -23,3 +27,24 @@ are_desks o n ds all k d h = let inside : k < n = subst (λ z. k < z) all.len h 
 -- the desks before the last ones
 pub are_front : (o : Opening) (ds xs ys : List (Badge Known)) → ds ≡ xs ++ ys → AreDesksOf o ds → AreDesksOf o xs
 are_front o ds xs ys is all k d h = let both : AreDesksOf o (xs ++ ys) = subst (AreDesksOf o) is all in let long = length-append xs ys in subst (IsDeskOf o) (get_or-append xs ys d k h) (both k d (omega arith))
+
+-- a plain call is a call
+pub plain_is_call : (c : Command) → is_plain c ≡ true → is_some (call_of c) ≡ true
+plain_is_call (command.Edit range text) yes = refl
+plain_is_call (command.Batch edits) yes = absurd cc
+plain_is_call command.Undo yes = refl
+plain_is_call command.Redo yes = refl
+plain_is_call (command.Text range limit) yes = refl
+plain_is_call (command.Mark id range exclusive) yes = refl
+plain_is_call (command.Unmark id) yes = refl
+plain_is_call (command.Exclusive id value) yes = refl
+plain_is_call (command.Range id) yes = refl
+plain_is_call (command.Marks how range) yes = refl
+plain_is_call (command.Compare a b) yes = refl
+plain_is_call (command.Watch id) yes = absurd cc
+plain_is_call (command.Unwatch id) yes = absurd cc
+plain_is_call (command.Take snapshot) yes = yes
+plain_is_call (command.Read snapshot reads) yes = yes
+plain_is_call (command.Send snapshot reads) yes = yes
+plain_is_call (command.Release snapshot) yes = yes
+plain_is_call command.Squash yes = yes

@@ -30,6 +30,12 @@ impl PlainBuffer for Counting {
         self.plain.count()
     }
 
+    fn units(&self, alloc: Global) -> Result<Units, NoMemory> {
+        let mut units = Units::new(alloc);
+        units.append(self.plain.text())?;
+        Ok(units)
+    }
+
     fn play(&mut self, alloc: Global, command: &Command) -> Result<Reply, NoMemory> {
         let _ = alloc;
         if self.plain.count() >= 1_000_000 {
@@ -78,24 +84,24 @@ fn typed<R: Wait>(rt: &R, alloc: Global, buffer: &Buffer, desk: &mut Desk) -> Op
     }
 }
 
-// Two desks in turn, three edits each, and one more from the desk that both were ended into.
-fn in_turn<R: Wait>(rt: &R, alloc: Global) -> Option<[u64; 7]> {
+// Two desks in turn, three edits each, and what is there at the end.
+fn in_turn<R: Wait>(rt: &R, alloc: Global) -> Option<([u64; 6], u64, usize)> {
     let (buffer, mut desks) = started(alloc, 2)?;
     let mut one = taken(&buffer, &mut desks)?;
     let mut other = taken(&buffer, &mut desks)?;
-    let mut numbers = [0; 7];
+    let mut numbers = [0; 6];
     for i in 0..3 {
         numbers[i] = typed(rt, alloc, &buffer, &mut one)?;
         numbers[i + 3] = typed(rt, alloc, &buffer, &mut other)?;
     }
     buffer.end(other, &mut one);
-    numbers[6] = typed(rt, alloc, &buffer, &mut one)?;
-    Some(numbers)
+    let finished = buffer.finish(rt, alloc, one).ok()?;
+    Some((numbers, finished.count, finished.text.len()))
 }
 
 #[test]
 fn two_desks_have_one_count(rt: HostRuntime) {
-    assert_eq!(rt; in_turn(&rt, rt.alloc()), Some([1, 3, 5, 2, 4, 6, 7]));
+    assert_eq!(rt; in_turn(&rt, rt.alloc()), Some(([1, 3, 5, 2, 4, 6], 6, 6)));
 }
 
 // A new hand, kept for good, and its number.

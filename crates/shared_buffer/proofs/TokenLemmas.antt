@@ -1,5 +1,6 @@
 -- What a call of the table tells of a shared buffer.
 use Rattle.std.proofs.Common.{◌≡◌, ℕ, ◌<◌, Bool, true, false, cond, nat_lt, List, [], ◌∷◌, ◌++◌, Option, None, Some, refl, ap, sym, subst, ◌∙◌, arith, append_assoc}
+use Rattle.std.specs.Prelude.{filter}
 use Rattle.std.proofs.lemmas.Bool.Decides.{nat_tests}
 use Rattle.std.proofs.lemmas.List.{append-nil}
 use Rattle.points.specs.declared.limits.TheConstants.{LAST, MAX_HANDS}
@@ -9,14 +10,16 @@ use Rattle.machine.specs.declared.reply.Reply.{Reply}
 use Rattle.machine.specs.Plain.{plain_reply}
 use Rattle.turn_table.specs.Meaning.{MayFollow, lowest, HasRoom}
 use Rattle.turn_table.specs.History.{entry}
-use Rattle.turn_table.specs.Views.{view, hand, caller}
+use Rattle.turn_table.specs.declared.view.Role.{Role}
+use Rattle.turn_table.specs.Views.{view, hand, caller, added, stands_for}
+use Rattle.turn_table.specs.Tokens.{is_own, IsDesk}
 use Rattle.turn_table.specs.Given.{one_view}
-use Rattle.turn_table.specs.Calls.{Turned, Took, Looked}
+use Rattle.turn_table.specs.Calls.{Has, Turned, Took, Looked}
 use Rattle.turn_table.proofs.HistoryLemmas.{state_after-append}
-use Rattle.turn_table.proofs.DeskLemmas.{turned_as}
+use Rattle.turn_table.proofs.DeskLemmas.{had, turned_as}
 use Rattle.turn_table.proofs.GivenLemmas.{has_hand_in}
-use Rattle.shared_buffer.specs.Entries.{Shared, Entry, called, handed, is_numbered, said, Meets, free_of, free_number}
-use Rattle.shared_buffer.specs.Tokens.{Opening, Known, Line, rules, behind, own_calls, IsSeatOf, Called, Stays, IsSpent, IsHanded, IsFull}
+use Rattle.shared_buffer.specs.Entries.{Shared, Entry, called, handed, finished, is_numbered, said, Meets, free_of, free_number}
+use Rattle.shared_buffer.specs.Tokens.{Opening, Known, Line, rules, behind, own_calls, IsSeatOf, Called, Stays, IsSpent, IsHanded, IsFull, IsFinished}
 
 said_some : (b : Bool) (a r : Reply) → Some r ≡ cond b (Some a) None → (b ≡ true) × (r ≡ a)
 said_some true a r e = (refl, cc)
@@ -122,3 +125,38 @@ module _ (o : Opening) where
 
   pub full_stays : (old new : List Known) → Turned (IsFull o) old new → Turned (Stays o) old new
   full_stays old new t = turned_as (IsFull o) (Stays o) old new t (λ v w full. full.stays)
+
+  -- ---- the end
+
+  pub finished_of : (text : List ℕ) (count : ℕ) (given : Option Known) (v w : Known) → IsDesk v → Takes given (finished text count) v w → IsFinished o text count v
+  finished_of text count given v w d took =
+      let x = behind o (v.seen ++ took.between) in
+      let e : finished text count ≡ finished x.plain.text x.plain.count = took.legal in
+      let same : behind o w.seen ≡ x = still (finished text count) given v w took refl in
+      let role : w.role ≡ v.role = took.role ∙ (ap (λ (r : Role Entry). added (rules o) r (entry (caller v.role) (finished text count))) d.role ∙ sym d.role) in
+      let stays : Stays o v w = stays_took (finished text count) given v w refl took in
+      record {
+        log = w.seen;
+        begun = stays.seen;
+        history = took.knows.legal;
+        text_is = let t : text ≡ x.plain.text = cc (e) in t ∙ ap (λ (y : Shared). y.plain.text) (sym same);
+        count_is = let n : count ≡ x.plain.count = cc (e) in n ∙ ap (λ (y : Shared). y.plain.count) (sym same);
+        own = ap (λ (r : Role Entry). filter (is_own (rules o) r) w.seen) (sym role) ∙ stays.mine;
+        whole = λ all. sym (took.knows.whole (λ n below. ap (λ (r : Role Entry). stands_for r n) role ∙ all n below)) ∙ stays.mine;
+      }
+
+-- ---- seen from the buffer, which clauses see as an opening
+
+pub spent_here : (o p : Opening) (c : Command) (r : Option Reply) (given : Option Known) (old new : List Known) → o ≡ p → None ≡ r → Turned (Takes o given (called c r)) old new → Turned (IsSpent p) old new
+spent_here o p c r given old new same none t = subst (λ (z : Opening). Turned (IsSpent z) old new) same (spent_turned o c given old new (subst (λ (z : Option Reply). Turned (Takes o given (called c z)) old new) (sym none) t))
+
+pub full_here : (o p : Opening) (r : Option ℕ) (given : Option Known) (old new : List Known) → o ≡ p → None ≡ r → Turned (Takes o given (handed r)) old new → Turned (IsFull p) old new
+full_here o p r given old new same none t = subst (λ (z : Opening). Turned (IsFull z) old new) same (full_turned o given old new (subst (λ (z : Option ℕ). Turned (Takes o given (handed z)) old new) (sym none) t))
+
+pub finish_here : (o p : Opening) (text : List ℕ) (count : ℕ) (end : List ℕ × ℕ) (given : Option Known) (views : List Known) → o ≡ p → (text, count) ≡ end → Has IsDesk views
+    → ((v : Known) → views ≡ v ∷ [] → (w : Known) × Takes o given (finished end.0 end.1) v w) → (v : Known) → views ≡ v ∷ [] → IsFinished p text count v
+finish_here o p text count end given views same is has all v e =
+    let t = all v e in
+    let text_is : text ≡ end.0 = ap (λ (x : List ℕ × ℕ). x.0) is in
+    let count_is : count ≡ end.1 = ap (λ (x : List ℕ × ℕ). x.1) is in
+    subst (λ (z : Opening). IsFinished z text count v) same (rw (text_is, count_is) (finished_of o end.0 end.1 given v t.0 (had IsDesk views v e has) t.1))

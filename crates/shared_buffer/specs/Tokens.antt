@@ -1,5 +1,5 @@
 -- What the callers of a shared buffer know, and what their calls do to it.
-use Rattle.std.specs.Prelude.{◌≡◌, ℕ, true, false, nat_lt, List, [], ◌∷◌, ◌++◌, Option, Some, None}
+use Rattle.std.specs.Prelude.{◌≡◌, ℕ, true, false, nat_lt, List, [], ◌∷◌, ◌++◌, filter, Option, Some, None}
 use mathlib.Core.List.{IsPrefix}
 use Rattle.points.specs.declared.limits.TheConstants.{LAST}
 use Rattle.atomic_table.specs.Seated.{TableId}
@@ -12,7 +12,7 @@ use Rattle.turn_table.specs.declared.view.View.{View}
 use Rattle.turn_table.specs.Meaning.{Meaning, MayFollow}
 use Rattle.turn_table.specs.History.{entry, state_after, IsLegal}
 use Rattle.turn_table.specs.Views.{view, hand, caller}
-use Rattle.turn_table.specs.Tokens.{mine, Knows, IsDesk, IsHand}
+use Rattle.turn_table.specs.Tokens.{mine, is_own, numbered_calls, StandsForAll, Knows, IsDesk, IsHand}
 use Rattle.turn_table.specs.Calls.{Has}
 use Rattle.shared_buffer.specs.Entries.{Shared, Entry, called, handed, meaning, Meets, free_number}
 
@@ -92,3 +92,14 @@ module _ (o : Opening) where
   pub record IsFull (v w : Known) : Type 0 where
     pub stays : Stays v w
     pub full : free_number (behind w.seen) ≡ None
+
+  -- This text and count are those behind a whole history, which begins with what the desk had seen. It has no more calls of the desk than the desk knew of; and
+  -- no numbered call but the desk's, where every desk was ended into this one
+  pub record IsFinished (text : List ℕ) (count : ℕ) (v : Known) : Type 0 where
+    pub log : List Line
+    pub begun : IsPrefix v.seen log
+    pub history : IsHistory log
+    pub text_is : text ≡ (behind log).plain.text
+    pub count_is : count ≡ (behind log).plain.count
+    pub own : filter (is_own rules v.role) log ≡ own_calls v
+    pub whole : StandsForAll rules o.desks v → numbered_calls rules log ≡ own_calls v

@@ -4,6 +4,7 @@ ghost use Rattle.shared_buffer.specs.Entries.{is_plain};
 
 use crate::told::{Shown, Told};
 use machine::Command;
+use points::Units;
 use turn_table::HandSeat;
 
 /// A command that is a numbered call and brings no watcher.
@@ -22,6 +23,8 @@ pub enum Call {
     Hand,
     /// Give back the hand with this number.
     GiveBack(u32),
+    /// Copy the whole text.
+    Finish,
 }
 
 /// What the buffer answers under the lock.
@@ -35,6 +38,8 @@ pub enum Reply {
     Hand(HandSeat<Told, Shown>, u32),
     /// All hands are out.
     NoHand,
+    /// The whole text, and how many calls were numbered.
+    Finished(Units, u64),
     /// The call was done, and tells no more.
     Done,
 }

@@ -6,7 +6,7 @@ ghost use Rattle.machine.specs.Plain.{after_call, plain_reply};
 ghost use Rattle.shared_buffer.specs.Entries.{is_plain};
 
 use machine::{Command, Reply};
-use points::{LAST, NoMemory};
+use points::{LAST, NoMemory, Units};
 use std::alloc::Global;
 
 /// A buffer of one thread that follows the plain machine.
@@ -22,6 +22,10 @@ pub trait PlainBuffer: Drop {
     /// How many calls were numbered.
     fn count(&self) -> u64
         ensures { result ≡ (state self.now).count };
+
+    /// The units of the whole text, copied.
+    fn units(&self, alloc: Global) -> Result<Units, NoMemory>
+        ensures { IfOk result (λ units. units ≡ (state self.now).text) };
 
     /// Plays a numbered call that brings no watcher. A call that finds no memory changes nothing.
     fn play(&mut self, alloc: Global, command: &Command) -> Result<Reply, NoMemory>

@@ -6,15 +6,15 @@ ghost use Rattle.turn_table.specs.Openings.{AreDealt, new_desk};
 ghost use Rattle.turn_table.specs.Calls.{Turned, Joined};
 ghost use Rattle.shared_buffer.specs.Entries.{Entry, Shared, is_plain, Meets};
 ghost use Rattle.turn_table.specs.Given.{seat_in};
-ghost use Rattle.shared_buffer.specs.Calls.{reply_in, hand_number, given};
-ghost use Rattle.shared_buffer.specs.Tokens.{IsDeskOf, IsSeatOf, Called, Stays, IsSpent, IsHanded, IsFull, rules};
+ghost use Rattle.shared_buffer.specs.Calls.{reply_in, hand_number, given, ending};
+ghost use Rattle.shared_buffer.specs.Tokens.{IsDeskOf, IsSeatOf, Called, Stays, IsSpent, IsHanded, IsFull, IsFinished, Known, rules};
 
 use crate::call::{Call, Numbered, Reply};
 use crate::held::Held;
 use crate::plain::PlainBuffer;
 use crate::told::{Shown, Told};
 use machine::Command;
-use points::NoMemory;
+use points::{NoMemory, Units};
 use std::alloc::Global;
 use std::marker::Model;
 use std::sync::Wait;
@@ -63,12 +63,19 @@ pub struct SharedBuffer<B: PlainBuffer + Send> {
 
 impl<B: PlainBuffer + Send> Model for SharedBuffer<B> {
     ghost use Rattle.turn_table.specs.Given.{seat_in};
-ghost use Rattle.shared_buffer.specs.Calls.{reply_in, hand_number, given};
-ghost use Rattle.shared_buffer.specs.Tokens.{Opening};
+    ghost use Rattle.shared_buffer.specs.Calls.{reply_in, hand_number, given, ending};
+    ghost use Rattle.shared_buffer.specs.Tokens.{Opening};
 
     ghost Value = { Opening };
 
     ghost view = { λ b. record { table = b.table.table.shared.table_id; start = b.table.table.shared.key.object.value; desks = b.table.table.shared.key.desks; version = B.version } };
+}
+
+/// The whole text, and how many calls were numbered.
+#[derive(Drop)]
+pub struct Finished {
+    pub text: Units,
+    pub count: u64,
 }
 
 /// A shared buffer with its desks, in the order of their numbers.
@@ -87,11 +94,13 @@ impl<B: PlainBuffer + Send> SharedBuffer<B> {
         ensures desks { IfOk result (λ s. AreDealt s.buffer.table new_desk desks s.desks.items) }
     {
         match TurnTable::new(alloc, Held::new(alloc, buffer, 0), desks, 0) {
-            Ok(Tokens {
-                table,
-                desks,
-                hands: _,
-            }) => Ok(Started {
+            Ok(
+                Tokens {
+                    table,
+                    desks,
+                    hands: _,
+                },
+            ) => Ok(Started {
                 buffer: SharedBuffer { table },
                 desks,
             }),
@@ -144,9 +153,7 @@ impl<B: PlainBuffer + Send> SharedBuffer<B> {
         requires { IsSeatOf self.now hand.number hand.seat }
     {
         let Hand { mut seat, number } = hand;
-        let _ = self
-            .table
-            .with_hand(rt, &mut seat, Call::GiveBack(number));
+        let _ = self.table.with_hand(rt, &mut seat, Call::GiveBack(number));
     }
 
     /// Ends a desk into another, which then stands for the desk numbers of both. It waits for nobody.
@@ -157,6 +164,37 @@ impl<B: PlainBuffer + Send> SharedBuffer<B> {
         ensures joined { (other : View Entry Shared) → desk.views ≡ other ∷ [] → Turned (λ v w. Joined (rules self.now) (MayFollow (rules self.now) Meets) self.now.start self.now.desks v other w) into.old.views into.new.views }
     {
         self.table.end(desk, into);
+    }
+
+    /// The whole text and the count, for which the buffer is given up. An `Err` is want of memory, and hands both back.
+    pub fn finish<R: Wait>(
+        self,
+        rt: &R,
+        alloc: Global,
+        desk: Desk,
+    ) -> Result<Finished, (SharedBuffer<B>, Desk)>
+        requires { IsDeskOf self desk }
+        ensures ok { IfOk result (λ f. (v : Known) → desk.views ≡ v ∷ [] → IsFinished self f.text f.count v) }
+        ensures same { IfErr result (λ x. (x.0 ≡ self) × IsDeskOf self x.1) }
+        ensures err { IfErr result (λ x. Turned (Stays self) desk.views x.1.views) }
+    {
+        match self.table.close(rt, desk, Call::Finish) {
+            Ok(reply) => Ok(ended(alloc, reply)),
+            Err((table, desk, _)) => Err((SharedBuffer { table }, desk)),
+        }
+    }
+}
+
+// The text and the count in a reply.
+fn ended(alloc: Global, reply: Reply) -> Finished
+    ensures { (result.text, result.count) ≡ ending reply }
+{
+    match reply {
+        Reply::Finished(text, count) => Finished { text, count },
+        _ => Finished {
+            text: Units::new(alloc),
+            count: 0,
+        },
     }
 }
 
