@@ -18,8 +18,8 @@ use Rattle.turn_table.specs.Calls.{Has, Turned, Took, Looked}
 use Rattle.turn_table.proofs.HistoryLemmas.{state_after-append}
 use Rattle.turn_table.proofs.DeskLemmas.{had, turned_as}
 use Rattle.turn_table.proofs.GivenLemmas.{has_hand_in}
-use Rattle.shared_buffer.specs.Entries.{Shared, Entry, called, handed, finished, is_numbered, said, Meets, free_of, free_number}
-use Rattle.shared_buffer.specs.Tokens.{Opening, Known, Line, rules, behind, own_calls, IsSeatOf, Called, Stays, IsSpent, IsHanded, IsFull, IsFinished}
+use Rattle.shared_buffer.specs.Entries.{Shared, Entry, called, handed, taken, finished, is_numbered, said, Meets, free_of, free_number}
+use Rattle.shared_buffer.specs.Tokens.{Opening, Known, Line, rules, behind, own_calls, IsSeatOf, Called, Stays, IsSpent, IsHanded, IsFull, IsTaken, IsFinished}
 
 said_some : (b : Bool) (a r : Reply) → Some r ≡ cond b (Some a) None → (b ≡ true) × (r ≡ a)
 said_some true a r e = (refl, cc)
@@ -126,6 +126,21 @@ module _ (o : Opening) where
   pub full_stays : (old new : List Known) → Turned (IsFull o) old new → Turned (Stays o) old new
   full_stays old new t = turned_as (IsFull o) (Stays o) old new t (λ v w full. full.stays)
 
+  -- ---- a snapshot
+
+  pub taken_of : (text : List ℕ) (version : ℕ) (given : Option Known) (v w : Known) → Takes given (taken text version) v w → IsTaken o text version v w
+  taken_of text version given v w took =
+      let x = behind o (v.seen ++ took.between) in
+      let e : taken text version ≡ taken x.plain.text x.plain.version = took.legal in
+      record {
+        stays = stays_took (taken text version) given v w refl took;
+        front = v.seen ++ took.between;
+        floor = (took.between, refl);
+        seen = (entry (caller v.role) (taken text version) ∷ [], sym took.seen);
+        text_is = cc (e);
+        version_is = cc (e);
+      }
+
   -- ---- the end
 
   pub finished_of : (text : List ℕ) (count : ℕ) (given : Option Known) (v w : Known) → IsDesk v → Takes given (finished text count) v w → IsFinished o text count v
@@ -160,3 +175,16 @@ finish_here o p text count end given views same is has all v e =
     let text_is : text ≡ end.0 = ap (λ (x : List ℕ × ℕ). x.0) is in
     let count_is : count ≡ end.1 = ap (λ (x : List ℕ × ℕ). x.1) is in
     subst (λ (z : Opening). IsFinished z text count v) same (rw (text_is, count_is) (finished_of o end.0 end.1 given v t.0 (had IsDesk views v e has) t.1))
+
+pub taken_here : (o p : Opening) (text : List ℕ) (version : ℕ) (shown : List ℕ × ℕ) (given : Option Known) (old new : List Known) → o ≡ p → (text, version) ≡ shown
+    → Turned (Takes o given (taken shown.0 shown.1)) old new → Turned (IsTaken p text version) old new
+taken_here o p text version shown given old new same is t =
+    let text_is : text ≡ shown.0 = ap (λ (x : List ℕ × ℕ). x.0) is in
+    let version_is : version ≡ shown.1 = ap (λ (x : List ℕ × ℕ). x.1) is in
+    subst (λ (z : Opening). Turned (IsTaken z text version) old new) same
+    (rw (text_is, version_is) (turned_as (Takes o given (taken shown.0 shown.1)) (IsTaken o shown.0 shown.1) old new t (λ v w took. taken_of o shown.0 shown.1 given v w took)))
+
+-- where the reply has no reader, the text is empty
+pub blank_here : (o p : Opening) (shown : List ℕ × ℕ) (given : Option Known) (old new : List Known) → o ≡ p → Turned (Takes o given (taken shown.0 shown.1)) old new → Turned (Stays p) old new
+blank_here o p shown given old new same t = subst (λ (z : Opening). Turned (Stays z) old new) same
+    (turned_as (Takes o given (taken shown.0 shown.1)) (Stays o) old new t (λ v w took. (taken_of o shown.0 shown.1 given v w took).stays))

@@ -14,11 +14,12 @@ pub record Shared : Type 0 where
   pub plain : State
   pub out : List Bool
 
--- A call with its reply: a numbered call, whose reply is nothing where no number was left; a hand that was asked for, with its number where one was made; a hand given back; and the whole text that was asked for, with how many calls were numbered
+-- A call with its reply: a numbered call, whose reply is nothing where no number was left; a hand that was asked for, with its number where one was made; a hand given back; a snapshot, with its text and version; and the whole text that was asked for, with how many calls were numbered
 pub data Entry : Type 0 where
   called : Command → Option Reply → Entry
   handed : Option ℕ → Entry
   given_back : ℕ → Entry
+  taken : List ℕ → ℕ → Entry
   finished : List ℕ → ℕ → Entry
 
 -- the command is a numbered call, one edit at most, and brings no watcher
@@ -53,6 +54,7 @@ abbrev pub after : Shared → Entry → Shared
 after x (called c r) = after_called x c r
 after x (handed n) = after_handed x n
 after x (given_back n) = with_out x n false
+after x (taken text version) = x
 after x (finished text count) = x
 
 -- only calls that get a number count as calls of their desk
@@ -60,6 +62,7 @@ abbrev pub is_numbered : Entry → Bool
 is_numbered (called c r) = is_some r
 is_numbered (handed n) = false
 is_numbered (given_back n) = false
+is_numbered (taken text version) = false
 is_numbered (finished text count) = false
 
 module _ (version : ℕ) where
@@ -72,6 +75,7 @@ module _ (version : ℕ) where
   next x (called c r) = Some (called c (said x.plain c))
   next x (handed n) = Some (handed (free_number x))
   next x (given_back n) = Some (given_back n)
+  next x (taken text version) = Some (taken x.plain.text x.plain.version)
   next x (finished text count) = Some (finished x.plain.text x.plain.count)
 
   abbrev pub meaning : Meaning Entry Shared

@@ -93,6 +93,15 @@ module _ (o : Opening) where
     pub stays : Stays v w
     pub full : free_number (behind w.seen) ≡ None
 
+  -- so, and this text and version are those behind the front: what stands in the history before the snapshot was taken, which begins with all that the desk had seen
+  pub record IsTaken (text : List ℕ) (version : ℕ) (v w : Known) : Type 0 where
+    pub stays : Stays v w
+    pub front : List Line
+    pub floor : IsPrefix v.seen front
+    pub seen : IsPrefix front w.seen
+    pub text_is : text ≡ (behind front).plain.text
+    pub version_is : version ≡ (behind front).plain.version
+
   -- This text and count are those behind a whole history, which begins with what the desk had seen. It has no more calls of the desk than the desk knew of; and
   -- no numbered call but the desk's, where every desk was ended into this one
   pub record IsFinished (text : List ℕ) (count : ℕ) (v : Known) : Type 0 where

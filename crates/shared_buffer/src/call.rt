@@ -3,6 +3,7 @@ ghost use Rattle.std.specs.Prelude.{◌≡◌, true};
 ghost use Rattle.shared_buffer.specs.Entries.{is_plain};
 
 use crate::told::{Shown, Told};
+use layers::Reader;
 use machine::Command;
 use points::Units;
 use turn_table::HandSeat;
@@ -23,6 +24,8 @@ pub enum Call {
     Hand,
     /// Give back the hand with this number.
     GiveBack(u32),
+    /// Make a reader of the text.
+    Take,
     /// Copy the whole text.
     Finish,
 }
@@ -38,6 +41,8 @@ pub enum Reply {
     Hand(HandSeat<Told, Shown>, u32),
     /// All hands are out.
     NoHand,
+    /// A reader of the text, and the text's version.
+    Taken(Reader, u64),
     /// The whole text, and how many calls were numbered.
     Finished(Units, u64),
     /// The call was done, and tells no more.

@@ -115,6 +115,10 @@ impl<B: PlainBuffer + Send> Object for Held<B> {
                 }
                 Ok(Reply::Done)
             }
+            Call::Take => match self.buffer.reader(self.alloc) {
+                Ok((reader, version)) => Ok(Reply::Taken(reader, version)),
+                Err(NoMemory) => Err(Call::Take),
+            },
             Call::Finish => match self.buffer.units(self.alloc) {
                 Ok(text) => Ok(Reply::Finished(text, self.buffer.count())),
                 Err(NoMemory) => Err(Call::Finish),

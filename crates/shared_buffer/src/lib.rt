@@ -15,5 +15,5 @@ mod told;
 pub use call::{Call, Numbered, Reply};
 pub use held::Held;
 pub use plain::PlainBuffer;
-pub use shared::{Desk, Finished, Hand, HandRefusal, Refusal, SharedBuffer, Started};
+pub use shared::{Desk, Finished, Hand, HandRefusal, Refusal, SharedBuffer, Snapshot, Started};
 pub use told::{Shown, Told};

@@ -5,6 +5,7 @@ ghost use Rattle.machine.specs.Answers.{call_of};
 ghost use Rattle.machine.specs.Plain.{after_call, plain_reply};
 ghost use Rattle.shared_buffer.specs.Entries.{is_plain};
 
+use layers::Reader;
 use machine::{Command, Reply};
 use points::{LAST, NoMemory, Units};
 use std::alloc::Global;
@@ -22,6 +23,12 @@ pub trait PlainBuffer: Drop {
     /// How many calls were numbered.
     fn count(&self) -> u64
         ensures { result ≡ (state self.now).count };
+
+    /// A reader of the text as it is, which later calls don't change, and the number of the last call that changed the
+    /// text.
+    fn reader(&self, alloc: Global) -> Result<(Reader, u64), NoMemory>
+        ensures text { IfOk result (λ r. r.0.text ≡ (state self.now).text) }
+        ensures version { IfOk result (λ r. r.1 ≡ (state self.now).version) };
 
     /// The units of the whole text, copied.
     fn units(&self, alloc: Global) -> Result<Units, NoMemory>

@@ -6,13 +6,14 @@ ghost use Rattle.turn_table.specs.Openings.{AreDealt, new_desk};
 ghost use Rattle.turn_table.specs.Calls.{Turned, Joined};
 ghost use Rattle.shared_buffer.specs.Entries.{Entry, Shared, is_plain, Meets};
 ghost use Rattle.turn_table.specs.Given.{seat_in};
-ghost use Rattle.shared_buffer.specs.Calls.{reply_in, hand_number, given, ending};
-ghost use Rattle.shared_buffer.specs.Tokens.{IsDeskOf, IsSeatOf, Called, Stays, IsSpent, IsHanded, IsFull, IsFinished, Known, rules};
+ghost use Rattle.shared_buffer.specs.Calls.{reply_in, hand_number, given, ending, showing};
+ghost use Rattle.shared_buffer.specs.Tokens.{IsDeskOf, IsSeatOf, Called, Stays, IsSpent, IsHanded, IsFull, IsTaken, IsFinished, Known, rules};
 
 use crate::call::{Call, Numbered, Reply};
 use crate::held::Held;
 use crate::plain::PlainBuffer;
 use crate::told::{Shown, Told};
+use layers::Reader;
 use machine::Command;
 use points::{NoMemory, Units};
 use std::alloc::Global;
@@ -34,6 +35,26 @@ impl Hand {
     pub fn retire(self) {
         let Hand { seat, number: _ } = self;
         drop(seat);
+    }
+}
+
+/// A snapshot: a text and its version as a take saw them, and the hand that it uses. It must be released, or retired.
+pub struct Snapshot {
+    pub hand: Hand,
+    pub reader: Reader,
+    pub version: u64,
+}
+
+impl Snapshot {
+    /// Spends the snapshot without a call. Its hand stays out for good.
+    pub fn retire(self) {
+        let Snapshot {
+            hand,
+            reader,
+            version: _,
+        } = self;
+        drop(reader);
+        hand.retire();
     }
 }
 
@@ -63,7 +84,7 @@ pub struct SharedBuffer<B: PlainBuffer + Send> {
 
 impl<B: PlainBuffer + Send> Model for SharedBuffer<B> {
     ghost use Rattle.turn_table.specs.Given.{seat_in};
-    ghost use Rattle.shared_buffer.specs.Calls.{reply_in, hand_number, given, ending};
+    ghost use Rattle.shared_buffer.specs.Calls.{reply_in, hand_number, given, ending, showing};
     ghost use Rattle.shared_buffer.specs.Tokens.{Opening};
 
     ghost Value = { Opening };
@@ -156,6 +177,48 @@ impl<B: PlainBuffer + Send> SharedBuffer<B> {
         let _ = self.table.with_hand(rt, &mut seat, Call::GiveBack(number));
     }
 
+    /// Takes a snapshot of the text as it is, for which a hand is used up to its release. An `Err` is want of memory, and
+    /// hands the hand back.
+    pub fn take<R: Wait>(&self, rt: &R, desk: &mut Desk, hand: Hand) -> Result<Snapshot, Hand>
+        requires desk { IsDeskOf self.now desk.old }
+        ensures desk { IsDeskOf self.now desk.new }
+        ensures ok { IfOk result (λ s. Turned (IsTaken self.now s.reader.text s.version) desk.old.views desk.new.views) }
+        ensures hand { IfOk result (λ s. s.hand ≡ hand) }
+        ensures err { IfErr result (λ h. (h ≡ hand) × Turned (Stays self.now) desk.old.views desk.new.views) }
+    {
+        match self.table.with(rt, desk, Call::Take) {
+            Ok(reply) => match shown(reply) {
+                Some((reader, version)) => Ok(Snapshot {
+                    hand,
+                    reader,
+                    version,
+                }),
+                None => Err(hand),
+            },
+            Err(_) => Err(hand),
+        }
+    }
+
+    /// A reader of a snapshot, at any time up to its release. It shows what the take saw.
+    pub fn open_snapshot(&self, snapshot: &Snapshot) -> Result<Reader, NoMemory>
+        ensures { IfOk result (λ r. r.text ≡ snapshot.now.reader.text) }
+    {
+        snapshot.reader.try_clone()
+    }
+
+    /// Gives a snapshot up, and its hand back. It waits for nobody and takes no memory.
+    pub fn release(&self, snapshot: Snapshot) -> Hand
+        ensures { result ≡ snapshot.hand }
+    {
+        let Snapshot {
+            hand,
+            reader,
+            version: _,
+        } = snapshot;
+        drop(reader);
+        hand
+    }
+
     /// Ends a desk into another, which then stands for the desk numbers of both. It waits for nobody.
     pub fn end(&self, desk: Desk, into: &mut Desk)
         requires desk { IsDeskOf self.now desk }
@@ -182,6 +245,16 @@ impl<B: PlainBuffer + Send> SharedBuffer<B> {
             Ok(reply) => Ok(ended(alloc, reply)),
             Err((table, desk, _)) => Err((SharedBuffer { table }, desk)),
         }
+    }
+}
+
+// The reader in a reply, where it has one, with the version.
+fn shown(reply: Reply) -> Option<(Reader, u64)>
+    ensures { IfSome result (λ r. (r.0.text, r.1) ≡ showing reply) }
+{
+    match reply {
+        Reply::Taken(reader, version) => Some((reader, version)),
+        _ => None,
     }
 }
 
