@@ -1,2 +1,1 @@
-pub mod FreeLemmas
 pub mod SeatLemmas

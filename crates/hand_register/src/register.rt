@@ -1,5 +1,4 @@
 ghost use Rattle.std.specs.Prelude.{◌≡◌, ℕ, ◌<◌, ◌≤◌, true, false, None, IfOk, IfErr, nat_lt, slice_index_or};
-ghost use Rattle.turn_table.specs.Meaning.{first_free};
 ghost use Rattle.turn_table.specs.Turns.{IsReady};
 ghost use Rattle.turn_table.specs.Views.{holding};
 ghost use Rattle.hand_register.specs.declared.register.Call.TheVariants.{Hand};
@@ -7,7 +6,7 @@ ghost use Rattle.hand_register.specs.Register.{shown, meaning, Meets, told, by_c
 
 use points::MAX_HANDS;
 use std::collections::LinkedList;
-use turn_table::{HandSeat, Object, Turn};
+use turn_table::{HandSeat, Object, Turn, hand_row, lowest_free};
 
 /// What a caller asks of the register.
 #[derive(Drop)]
@@ -64,23 +63,10 @@ impl Register {
         ensures count { result.count ≡ 0 }
         ensures out { (n : ℕ) → slice_index_or result.out n false ≡ nat_lt n hands }
     {
-        let mut out = [false; 32];
-        for i in 0..hands as usize {
-            out[i] = true;
+        Register {
+            count: 0,
+            out: hand_row(hands),
         }
-        Register { count: 0, out }
-    }
-
-    // The lowest number that isn't out.
-    fn lowest(&self) -> usize
-        ensures { result ≡ first_free (λ n. slice_index_or self.now.out n false) MAX_HANDS 0 }
-    {
-        for i in 0..MAX_HANDS {
-            if !self.out[i] {
-                return i;
-            }
-        }
-        MAX_HANDS
     }
 }
 
@@ -93,7 +79,7 @@ impl Register {
         ensures ok { IfOk result (λ r. Makes (T.about turn.old).table (T.view turn.old) (T.view turn.new) (shown self.old.count self.old.out) r (shown self.new.count self.new.out)) }
         ensures err { IfErr result (λ c. (c ≡ Hand) × (shown self.new.count self.new.out ≡ shown self.old.count self.old.out) × (T.view turn.new ≡ T.view turn.old)) }
     {
-        let number = self.lowest();
+        let number = lowest_free(&self.out);
         if number >= MAX_HANDS {
             return Ok(Reply::NoHand);
         }

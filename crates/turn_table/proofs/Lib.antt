@@ -1,5 +1,5 @@
 mod Seats
-mod HistoryLemmas
+pub mod HistoryLemmas
 mod MineLemmas
 mod FrameLemmas
 mod LockLemmas
@@ -9,4 +9,6 @@ mod JoinLemmas
 mod HoldLemmas
 mod CallLemmas
 mod OpenLemmas
-mod DeskLemmas
+pub mod DeskLemmas
+mod FreeLemmas
+pub mod GivenLemmas

@@ -7,3 +7,4 @@ pub mod Steps
 pub mod Turns
 pub mod Calls
 pub mod Openings
+pub mod Given

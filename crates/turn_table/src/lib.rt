@@ -12,11 +12,13 @@ mod calls;
 mod hold;
 mod object;
 mod open;
+mod row;
 mod rule;
 mod table;
 mod view;
 
 pub use object::{Object, Turn};
 pub use open::{MAX_DESKS, Tokens};
+pub use row::{hand_row, lowest_free};
 pub use table::TurnTable;
 pub use view::{Dealer, Desk, DeskRole, Entry, HandRole, HandSeat, Holding, Part, Role, View};

@@ -1,6 +1,6 @@
 use Rattle.std.proofs.Common.{rules, ◌<◌, length, refl}
-use Rattle.hand_register.proofs.FreeLemmas.{none_out, one_out}
-use Rattle.hand_register.proofs.register.Register.new.Goals as goal
+use Rattle.turn_table.proofs.FreeLemmas.{none_out, one_out}
+use Rattle.turn_table.proofs.row.hand_row.Goals as goal
 
 pub loop-i-init : goal.loop-i-init
 loop-i-init c = (refl, none_out)

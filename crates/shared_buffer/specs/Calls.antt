@@ -1,0 +1,89 @@
+-- The calls and replies under the lock, as entries of the history.
+use Rattle.std.specs.Prelude.{◌≡◌, refl, ℕ, Bool, true, false, List, [], Option, Some, None}
+use Rattle.atomic_table.specs.Seated.{TableId}
+use Rattle.machine.specs.declared.reply.Reply as machine_reply
+use Rattle.turn_table.specs.declared.view.View.{View}
+use Rattle.turn_table.specs.Given.{seat_in}
+use Rattle.shared_buffer.specs.declared.call.Call.{Call}
+use Rattle.shared_buffer.specs.declared.call.Call.TheVariants.{Play, Hand as MakeHand, GiveBack, Take, Finish}
+use Rattle.shared_buffer.specs.declared.call.Reply.{Reply}
+use Rattle.shared_buffer.specs.declared.call.Reply.TheVariants.{Played, Spent, Hand, NoHand, Taken, Finished, Done}
+use Rattle.shared_buffer.specs.Entries.{Shared, Entry, called, handed, given_back, taken, finished, next}
+
+-- the seat of the hand that a reply has
+abbrev pub given : Reply → Option (TableId × View Entry Shared)
+given (Played r) = None
+given Spent = None
+given (Hand h k) = seat_in h.table_id h.views
+given NoHand = None
+given (Taken reader version) = None
+given (Finished text count) = None
+given Done = None
+
+abbrev pub reply_in : Reply → Option machine_reply.Reply
+reply_in (Played r) = Some r
+reply_in Spent = None
+reply_in (Hand h k) = None
+reply_in NoHand = None
+reply_in (Taken reader version) = None
+reply_in (Finished text count) = None
+reply_in Done = None
+
+abbrev pub hand_number : Reply → Option ℕ
+hand_number (Played r) = None
+hand_number Spent = None
+hand_number (Hand h k) = Some k
+hand_number NoHand = None
+hand_number (Taken reader version) = None
+hand_number (Finished text count) = None
+hand_number Done = None
+
+-- the text and the count in a reply
+abbrev pub ending : Reply → List ℕ × ℕ
+ending (Played r) = ([], 0)
+ending Spent = ([], 0)
+ending (Hand h k) = ([], 0)
+ending NoHand = ([], 0)
+ending (Taken reader version) = ([], 0)
+ending (Finished text count) = (text, count)
+ending Done = ([], 0)
+
+-- the text and the version in a reply
+abbrev pub showing : Reply → List ℕ × ℕ
+showing (Played r) = ([], 0)
+showing Spent = ([], 0)
+showing (Hand h k) = ([], 0)
+showing NoHand = ([], 0)
+showing (Taken reader version) = (reader.text, version)
+showing (Finished text count) = ([], 0)
+showing Done = ([], 0)
+
+abbrev pub told : Call → Reply → Entry
+told (Play c) r = called c.command (reply_in r)
+told MakeHand r = handed (hand_number r)
+told (GiveBack n) r = given_back n
+told Take r = taken (showing r).0 (showing r).1
+told Finish r = finished (ending r).0 (ending r).1
+
+pub by_call : (version : ℕ) (x : Shared) (c : Call) (r s : Reply) → next version x (told c r) ≡ next version x (told c s)
+by_call version x (Play c) r s = refl
+by_call version x MakeHand r s = refl
+by_call version x (GiveBack n) r s = refl
+by_call version x Take r s = refl
+by_call version x Finish r s = refl
+
+-- the hand number that a call gives back
+abbrev pub back : Call → Option ℕ
+back (Play c) = None
+back MakeHand = None
+back (GiveBack n) = Some n
+back Take = None
+back Finish = None
+
+-- whether a call takes no memory
+abbrev pub is_free : Call → Bool
+is_free (Play c) = false
+is_free MakeHand = false
+is_free (GiveBack n) = true
+is_free Take = false
+is_free Finish = false

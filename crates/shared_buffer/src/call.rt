@@ -1,0 +1,50 @@
+//! The calls under the lock, and their replies.
+ghost use Rattle.std.specs.Prelude.{◌≡◌, true};
+ghost use Rattle.shared_buffer.specs.Entries.{is_plain};
+
+use crate::told::{Shown, Told};
+use layers::Reader;
+use machine::Command;
+use points::Units;
+use turn_table::HandSeat;
+
+/// A command that is a numbered call and brings no watcher.
+#[derive(Drop)]
+pub struct Numbered {
+    pub command: Command,
+    ghost plain: { is_plain command ≡ true },
+}
+
+/// What a caller asks of the buffer under the lock.
+#[derive(Drop)]
+pub enum Call {
+    /// A numbered call.
+    Play(Numbered),
+    /// Make a hand, if fewer than 32 are out.
+    Hand,
+    /// Give back the hand with this number.
+    GiveBack(u32),
+    /// Make a reader of the text.
+    Take,
+    /// Copy the whole text.
+    Finish,
+}
+
+/// What the buffer answers under the lock.
+#[derive(Drop)]
+pub enum Reply {
+    /// The reply to a numbered call.
+    Played(machine::Reply),
+    /// No number is left for the call.
+    Spent,
+    /// The hand that was made, and its number.
+    Hand(HandSeat<Told, Shown>, u32),
+    /// All hands are out.
+    NoHand,
+    /// A reader of the text, and the text's version.
+    Taken(Reader, u64),
+    /// The whole text, and how many calls were numbered.
+    Finished(Units, u64),
+    /// The call was done, and tells no more.
+    Done,
+}
