@@ -1,5 +1,5 @@
 -- Units taken on their way to a sink: one lot behind the other, puts in between, and faults.
-use Rattle.std.proofs.Common.{◌≡◌, ℕ, ◌+◌, ◌-◌, ◌*◌, ◌^◌, ◌<◌, ◌≤◌, min, List, [], ◌∷◌, ◌++◌, length, take, drop, Option, Some, None, IfSome, IsTrue, cond, Bool, true, false, refl, sym, ap, ◌∙◌, subst, inl, inr, arith, slice_range, length-drop, Result, Ok, Err, OnErr, OnOk, length-append, append_assoc, append-nil}
+use Rattle.std.proofs.Common.{◌≡◌, ℕ, ◌+◌, ◌-◌, ◌*◌, ◌^◌, ◌<◌, ◌≤◌, min, List, [], ◌∷◌, ◌++◌, length, take, drop, Option, Some, None, IfSome, IsTrue, cond, Bool, true, false, refl, sym, ap, ◌∙◌, subst, inl, inr, arith, slice_range, get_or, take_all, length-drop, Result, Ok, Err, OnErr, OnOk, length-append, append_assoc, append-nil}
 use Rattle.std.proofs.Math.Seq.{take-append-add}
 use Rattle.std.specs.Option.{option_to_list}
 use Rattle.std.specs.Char.Utf16.{is_high_surrogate}
@@ -164,7 +164,7 @@ partial units at one two before after s within h small =
     let both : IsFront (behind one.encoder.waits (take at units ++ drop at units)) = subst (λ (xs : List ℕ). IsFront (behind one.encoder.waits xs)) (sym (take-append-drop at units)) h in
     record {
       front = subst (λ (o : Option ℕ). IsFront (behind o (drop at units))) (sym s.waits) (front_next one.encoder.waits (take at units) (drop at units) both);
-      small = omega (arith, weight_sent (take at units) one two before after s (front_of one.encoder.waits (take at units) (drop at units) both), length-take-le at units within, length-drop at units within);
+      small = omega (arith, weight_sent (take at units) one two before after s (front_of one.encoder.waits (take at units) (drop at units) both), length-take-le at units within, length-drop at units);
     }
 
 pub sent_more : (units : List ℕ) (at n : ℕ) (one two three : Outgoing) (first between last : Option (List ℕ)) → IsSent (take at units) one two first between → IsSent (take n (drop at units)) two three between last
@@ -187,6 +187,71 @@ pub record IsGiven (text : List ℕ) (e : Encoding) (rest : List ℕ) (out : Out
   pub whole : given ++ rest ≡ text
   pub sent : IsSent given (record { encoder = record { encoding = e; waits = None }; held = []; put = 0 }) out before after
 
+-- at the start nothing was taken
+pub given_none : (text : List ℕ) (e : Encoding) (taken : Option (List ℕ)) → IsGiven text e text (record { encoder = record { encoding = e; waits = None }; held = []; put = 0 }) taken taken
+given_none text e taken = record { given = []; whole = refl; sent = sent_none _ taken tt }
+
+waiting_high : (t : List ℕ) → IfSome (waiting t) (λ u. IsTrue (is_high_surrogate u))
+waiting_high t = by (is_high_surrogate (get_or t (length t - 1) 0)) refl
+  where
+    by : (b : Bool) → is_high_surrogate (get_or t (length t - 1) 0) ≡ b → IfSome (cond b (Some (get_or t (length t - 1) 0)) None) (λ u. IsTrue (is_high_surrogate u))
+    by true high = high
+    by false low = tt
+
+-- a text with no more than so many units, of which the next are these
+module _ (text : List ℕ) (e : Encoding) (piece rest : List ℕ) (out : Outgoing) (before between : Option (List ℕ)) (s : IsGiven text e (piece ++ rest) out before between) (good : IsWellFormed text) where
+  abbrev zero_out : Outgoing
+  zero_out = record { encoder = record { encoding = e; waits = None }; held = []; put = 0 }
+
+  both_front : IsFront (behind None (s.given ++ piece))
+  both_front = (rest, subst IsWellFormed (sym (append_assoc s.given piece rest ∙ s.whole)) good)
+
+  pub next_front : IsFront (behind out.encoder.waits piece)
+  next_front = subst (λ (o : Option ℕ). IsFront (behind o piece)) (sym s.sent.waits) (front_next None s.given piece both_front)
+
+  pub next_high : IfSome out.encoder.waits (λ u. IsTrue (is_high_surrogate u))
+  next_high = subst (λ (o : Option ℕ). IfSome o (λ u. IsTrue (is_high_surrogate u))) (sym s.sent.waits) (waiting_high (behind None s.given))
+
+  pub next_small : (n : ℕ) → length text ≤ n → 4 * n ≤ 2 ^ 63 → weight out + 4 * length piece ≤ 2 ^ 63
+  next_small n short few = let whole = ap length s.whole in
+      omega (arith, short, few, whole, weight_sent s.given zero_out out before between s.sent (front_of None s.given piece both_front), length-append s.given (piece ++ rest), length-append piece rest)
+
+  pub next_given : (new : Outgoing) (after : Option (List ℕ)) → IsSent piece out new between after → IsGiven text e rest new before after
+  next_given new after r = record { given = s.given ++ piece; whole = append_assoc s.given piece rest ∙ s.whole; sent = sent_then s.given piece zero_out out new before between after s.sent r both_front }
+
+  pub next_failed : (after : Option (List ℕ)) → AppendsPrefix (ahead out piece) between after → AppendsPrefix (encode e text) before after
+  next_failed after failed =
+      let whole : (s.given ++ piece) ++ rest ≡ text = append_assoc s.given piece rest ∙ s.whole in
+      let all : encode e text ≡ encode e (completed (s.given ++ piece)) ++ encode e (completed (behind (waiting (s.given ++ piece)) rest)) =
+      ap (encode e) (sym (completed-all text (waits_none text good))) ∙ (ap (λ (xs : List ℕ). encode e (completed xs)) (sym whole)
+      ∙ (later e None (s.given ++ piece) rest ([], subst IsWellFormed (sym (append-nil ((s.given ++ piece) ++ rest) ∙ whole)) good)).bytes) in
+      subst (λ (xs : List ℕ). AppendsPrefix xs before after) (sym all) (AppendsPrefix-more (encode e (completed (s.given ++ piece))) _ before after
+      (failed_then s.given piece zero_out out before between after s.sent failed both_front))
+
+-- the whole text was taken
+module _ (text : List ℕ) (e : Encoding) (out : Outgoing) (before between : Option (List ℕ)) (s : IsGiven text e [] out before between) (good : IsWellFormed text) where
+  abbrev start_out : Outgoing
+  start_out = record { encoder = record { encoding = e; waits = None }; held = []; put = 0 }
+
+  given_all : s.given ≡ text
+  given_all = sym (append-nil s.given) ∙ s.whole
+
+  pub all_bytes : encode e text ≡ s.sent.bytes ++ out.held
+  all_bytes = ap (encode e) (sym (completed-all text (waits_none text good)) ∙ ap completed (sym given_all)) ∙ s.sent.parts
+
+  pub all_small : (n : ℕ) → length text ≤ n → 4 * n ≤ 2 ^ 63 → weight out ≤ 2 ^ 63
+  all_small n short few = let whole = ap length given_all in
+      omega (arith, short, few, whole, weight_sent s.given start_out out before between s.sent ([], subst IsWellFormed (sym (append-nil s.given ∙ given_all)) good))
+
+  pub all_put : (after : Option (List ℕ)) → Appends out.held between after → Appends (encode e text) before after
+  all_put after put = subst (λ (xs : List ℕ). Appends xs before after) (sym all_bytes) (Appends-append s.sent.bytes out.held before between after s.sent.taken put)
+
+  pub all_failed : (after : Option (List ℕ)) → AppendsPrefix out.held between after → AppendsPrefix (encode e text) before after
+  all_failed after failed = subst (λ (xs : List ℕ). AppendsPrefix xs before after) (sym all_bytes) (AppendsPrefix-append s.sent.bytes out.held before between after s.sent.taken failed)
+
+  pub all_count : out.put + length out.held ≡ length (encode e text)
+  all_count = let n = ap length all_bytes in omega (arith, n, s.sent.count, length-append s.sent.bytes out.held)
+
 -- the offsets of a whole text's ends
 by_split : (b : Bool) (k : ℕ) → k ≤ 0 → cond b (k - 1) k ≡ 0
 by_split true k le = omega arith
@@ -202,3 +267,6 @@ start_offset t = clipped_offset_in t origin (omega arith) ∙ zero_plus (row_sta
 -- the whole text, by its first point and one behind its last
 pub whole_range : (t : List ℕ) (p : Point) → (extent t).row < p.row → slice_range t (clipped_offset t origin) (clipped_offset t p) ≡ t
 whole_range t p past = ap (λ (k : ℕ). slice_range t k (clipped_offset t p)) (start_offset t) ∙ (ap (λ (k : ℕ). slice_range t 0 k) (clipped_offset_past t p past) ∙ slice_whole t (length t) refl)
+
+pub slice_rest : (units : List ℕ) (at : ℕ) → take (length units - at) (drop at units) ≡ drop at units
+slice_rest units at = take_all (length units - at) (drop at units) (omega (arith, length-drop at units))
