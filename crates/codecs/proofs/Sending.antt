@@ -1,5 +1,5 @@
 -- Units taken on their way to a sink: one lot behind the other, puts in between, and faults.
-use Rattle.std.proofs.Common.{◌≡◌, ℕ, ◌+◌, ◌-◌, ◌*◌, ◌^◌, ◌<◌, ◌≤◌, min, List, [], ◌∷◌, ◌++◌, length, take, drop, Option, Some, None, IfSome, IsTrue, cond, Bool, true, false, refl, sym, ap, ◌∙◌, subst, inl, inr, arith, slice_range, get_or, take_all, length-drop, Result, Ok, Err, OnErr, OnOk, length-append, append_assoc, append-nil}
+use Rattle.std.proofs.Common.{◌≡◌, ℕ, ◌+◌, ◌-◌, ◌*◌, ◌^◌, ◌<◌, ◌≤◌, min, List, [], ◌∷◌, ◌++◌, length, take, drop, Option, Some, None, IfSome, IsTrue, cond, Bool, true, false, refl, sym, ap, ◌∙◌, subst, inl, inr, arith, slice_range, get_or, take_all, length-drop, Result, Ok, Err, IfOk, OnErr, OnOk, length-append, append_assoc, append-nil}
 use Rattle.std.proofs.Math.Seq.{take-append-add}
 use Rattle.std.specs.Option.{option_to_list}
 use Rattle.std.specs.Char.Utf16.{is_high_surrogate}
@@ -16,7 +16,7 @@ use Rattle.outer.proofs.Appended.{Appends-nil, Appends-append, AppendsPrefix-all
 use Rattle.machine.specs.declared.reads.Encoding.{Encoding}
 use Rattle.machine.specs.Encodings.{encode}
 use Rattle.codecs.specs.Partway.{Partway, waiting, completed, behind, IsFront}
-use Rattle.codecs.specs.Saving.{Outgoing, ahead, weight, IsSent}
+use Rattle.codecs.specs.Saving.{Outgoing, ahead, weight, IsSent, IsGiven}
 use Rattle.codecs.proofs.Fronts.{parts_of, completed_good, waiting-append, completed-append, completed-all, waits_none, front-append, split_of}
 use Rattle.codecs.proofs.Spelled.{encode-append, encode-nil, encode_short}
 use Rattle.codecs.proofs.Steps.{behind_nothing}
@@ -119,8 +119,18 @@ weight_sent a one two before after s h =
     let parts = ap length s.parts in
     let all = ap length (parts_of x) in
     let waits : length (option_to_list two.encoder.waits) ≡ length (option_to_list (waiting x)) = ap (λ (o : Option ℕ). length (option_to_list o)) s.waits in
-    omega (arith, parts, all, waits, s.count, encode_short one.encoder.encoding (completed x) (completed_good x h), length-append one.held (encode one.encoder.encoding (completed x)), length-append s.bytes two.held,
-    length-append (completed x) (option_to_list (waiting x)), length-append (option_to_list one.encoder.waits) a)
+    omega (
+      arith,
+      parts,
+      all,
+      waits,
+      s.count,
+      encode_short one.encoder.encoding (completed x) (completed_good x h),
+      length-append one.held (encode one.encoder.encoding (completed x)),
+      length-append s.bytes two.held,
+      length-append (completed x) (option_to_list (waiting x)),
+      length-append (option_to_list one.encoder.waits) a,
+    )
 
 -- units taken by a step, with no put
 pub record Stepped (a : List ℕ) (one two : Outgoing) : Type 0 where
@@ -172,7 +182,7 @@ pub sent_more : (units : List ℕ) (at n : ℕ) (one two three : Outgoing) (firs
 sent_more units at n one two three first between last s r within h =
     let both : take (at + n) units ≡ take at units ++ take n (drop at units) = take_two at n units within in
     let front : IsFront (behind one.encoder.waits (take (at + n) units)) = front_of one.encoder.waits (take (at + n) units) (drop (at + n) units)
-        (subst (λ (xs : List ℕ). IsFront (behind one.encoder.waits xs)) (sym (take-append-drop (at + n) units)) h) in
+    (subst (λ (xs : List ℕ). IsFront (behind one.encoder.waits xs)) (sym (take-append-drop (at + n) units)) h) in
     subst (λ (xs : List ℕ). IsSent xs one three first last) (sym both) (sent_then (take at units) (take n (drop at units)) one two three first between last s r (subst (λ (xs : List ℕ). IsFront (behind one.encoder.waits xs)) both front))
 
 pub failed_more : (units : List ℕ) (at : ℕ) (one two : Outgoing) (first between last : Option (List ℕ)) → IsSent (take at units) one two first between → IsFront (behind one.encoder.waits units)
@@ -180,12 +190,6 @@ pub failed_more : (units : List ℕ) (at : ℕ) (one two : Outgoing) (first betw
 failed_more units at one two first between last s h failed =
     subst (λ (xs : List ℕ). AppendsPrefix (ahead one xs) first last) (take-append-drop at units)
     (failed_then (take at units) (drop at units) one two first between last s failed (subst (λ (xs : List ℕ). IsFront (behind one.encoder.waits xs)) (sym (take-append-drop at units)) h))
-
--- a text on its way, of which the first units were taken
-pub record IsGiven (text : List ℕ) (e : Encoding) (rest : List ℕ) (out : Outgoing) (before after : Option (List ℕ)) : Type 0 where
-  pub given : List ℕ
-  pub whole : given ++ rest ≡ text
-  pub sent : IsSent given (record { encoder = record { encoding = e; waits = None }; held = []; put = 0 }) out before after
 
 -- at the start nothing was taken
 pub given_none : (text : List ℕ) (e : Encoding) (taken : Option (List ℕ)) → IsGiven text e text (record { encoder = record { encoding = e; waits = None }; held = []; put = 0 }) taken taken
@@ -270,3 +274,16 @@ whole_range t p past = ap (λ (k : ℕ). slice_range t k (clipped_offset t p)) (
 
 pub slice_rest : (units : List ℕ) (at : ℕ) → take (length units - at) (drop at units) ≡ drop at units
 slice_rest units at = take_all (length units - at) (drop at units) (omega (arith, length-drop at units))
+
+-- answers of a call, turned by what they say
+pub ok_count : {E : Type 0} (r : Result ℕ E) (a b : ℕ) → IfOk r (λ n. n ≡ a) → a ≡ b → IfOk r (λ n. n ≡ b)
+ok_count (Ok n) a b h e = h ∙ e
+ok_count (Err x) a b h e = h
+
+pub ok_turned : {T E P Q : Type 0} (r : Result T E) → OnOk r P → (P → Q) → OnOk r Q
+ok_turned (Ok x) h f = f h
+ok_turned (Err e) h f = tt
+
+pub err_turned : {T E P Q : Type 0} (r : Result T E) → OnErr r P → (P → Q) → OnErr r Q
+err_turned (Ok x) h f = tt
+err_turned (Err e) h f = f h

@@ -1,7 +1,8 @@
 -- A text on its way to a sink: what was put, what is held back, and what waits.
-use Rattle.std.specs.Prelude.{◌≡◌, ℕ, ◌+◌, ◌*◌, ◌++◌, List, length, Option}
+use Rattle.std.specs.Prelude.{◌≡◌, ℕ, ◌+◌, ◌*◌, ◌++◌, List, [], length, Option, None}
 use Rattle.std.specs.Option.{option_to_list}
 use Rattle.outer.specs.Sink.{Appends}
+use Rattle.machine.specs.declared.reads.Encoding.{Encoding}
 use Rattle.machine.specs.Encodings.{encode}
 use Rattle.codecs.specs.Partway.{Partway, waiting, completed, behind}
 
@@ -27,3 +28,13 @@ pub record IsSent (units : List ℕ) (old new : Outgoing) (before after : Option
   pub taken : Appends bytes before after
   pub encoding : new.encoder.encoding ≡ old.encoder.encoding
   pub waits : new.encoder.waits ≡ waiting (behind old.encoder.waits units)
+
+-- nothing was taken
+abbrev pub fresh : Encoding → Outgoing
+fresh e = record { encoder = record { encoding = e; waits = None }; held = []; put = 0 }
+
+-- a text on its way: its first units were taken, and these are left
+pub record IsGiven (text : List ℕ) (e : Encoding) (rest : List ℕ) (out : Outgoing) (before after : Option (List ℕ)) : Type 0 where
+  pub given : List ℕ
+  pub whole : given ++ rest ≡ text
+  pub sent : IsSent given (fresh e) out before after

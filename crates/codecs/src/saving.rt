@@ -6,7 +6,7 @@ ghost use Rattle.outer.specs.Sink.{Appends, AppendsPrefix};
 ghost use Rattle.points.specs.Text.{IsWellFormed};
 ghost use Rattle.machine.specs.Encodings.{encode};
 ghost use Rattle.codecs.specs.Partway.{behind, IsFront};
-ghost use Rattle.codecs.specs.Saving.{ahead, weight, IsSent};
+ghost use Rattle.codecs.specs.Saving.{ahead, weight, IsSent, IsGiven};
 
 use crate::encoder::Encoder;
 use arrayvec::ArrayVec;
@@ -38,6 +38,23 @@ pub fn save<K: Sink>(reader: &Reader, encoding: Encoding, sink: &mut K) -> Resul
     ensures cause { OnErr result (Rose (K.faults sink.old) (K.faults sink.new)) }
     ensures prefix { OnErr result (AppendsPrefix (encode encoding reader.now.text) (K.taken sink.old) (K.taken sink.new)) }
 {
+    let out = put_text(reader, encoding, sink)?;
+    finish(out, sink)
+}
+
+// Takes the units of a reader's text, piece by piece.
+fn put_text<K: Sink>(
+    reader: &Reader,
+    encoding: Encoding,
+    sink: &mut K,
+) -> Result<Outgoing, SaveFault>
+    requires { IsWellFormed reader.now.text }
+    ensures count { K.faults sink.old ≤ K.faults sink.new }
+    ensures given { IfOk result (λ out. IsGiven reader.now.text encoding [] out (K.taken sink.old) (K.taken sink.new)) }
+    ensures small { IfOk result (λ out. weight out ≤ 2 ^ 63) }
+    ensures cause { OnErr result (Rose (K.faults sink.old) (K.faults sink.new)) }
+    ensures prefix { OnErr result (AppendsPrefix (encode encoding reader.now.text) (K.taken sink.old) (K.taken sink.new)) }
+{
     prove!(reader.len() <= MAX_UNITS);
     let past = Point {
         row: u32::MAX,
@@ -47,6 +64,18 @@ pub fn save<K: Sink>(reader: &Reader, encoding: Encoding, sink: &mut K) -> Resul
     for piece in reader.pieces(Range::new(Point { row: 0, column: 0 }, past)) {
         out.take(piece, sink)?;
     }
+    Ok(out)
+}
+
+// Puts what is held, sends all on, and answers how many bytes were put.
+fn finish<K: Sink>(mut out: Outgoing, sink: &mut K) -> Result<u64, SaveFault>
+    requires { weight out ≤ 2 ^ 63 }
+    ensures count { K.faults sink.old ≤ K.faults sink.new }
+    ensures bytes { IfOk result (λ n. n ≡ out.put + length out.held) }
+    ensures put { OnOk result (Appends out.held (K.taken sink.old) (K.taken sink.new)) }
+    ensures cause { OnErr result (Rose (K.faults sink.old) (K.faults sink.new)) }
+    ensures prefix { OnErr result (AppendsPrefix out.held (K.taken sink.old) (K.taken sink.new)) }
+{
     out.put_held(sink)?;
     sink.flush()?;
     Ok(out.put)
