@@ -3,3 +3,4 @@ pub mod Spelled
 pub mod Steps
 pub mod Read
 pub mod Sending
+pub mod Again

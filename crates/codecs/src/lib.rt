@@ -8,6 +8,7 @@
 
 mod decoding;
 mod encoder;
+pub mod laws;
 mod saving;
 
 pub use decoding::decode;
