@@ -1,12 +1,11 @@
 -- What was encoded is read back.
-use Rattle.std.proofs.Common.{◌≡◌, ℕ, zero, suc, ◌+◌, ◌-◌, ◌*◌, ◌/◌, ◌%◌, ◌<◌, ◌≤◌, List, [], ◌∷◌, ◌++◌, map, get_or, true, false, encode_utf8_all, refl, sym, ap, ◌∙◌, subst, inl, inr, arith}
+use Rattle.std.proofs.Common.{◌≡◌, ℕ, suc, ◌≤◌, List, [], ◌∷◌, ◌++◌, map, get_or, true, false, encode_utf8_all, refl, sym, ap, ◌∙◌, subst, inl, inr, arith}
 use Rattle.std.specs.List.{flat_map}
 use Rattle.std.specs.Str.{all_scalars}
 use Rattle.std.proofs.lemmas.Bool.{cases_lt}
 use Rattle.std.proofs.lemmas.Bool.Decides.{nat_tests}
-use Rattle.bstr.specs.Utf8.{lossy_chars}
 use Rattle.bstr.proofs.lemmas.EncodeLemmas.{lossy_chars-encode}
-use Rattle.points.specs.Text.{utf16, text_of, mended, IsWellFormed}
+use Rattle.points.specs.Text.{utf16, mended, IsWellFormed}
 use Rattle.points.proofs.WellFormedLemmas.{encode_one, encode_two, scalar_parts}
 use Rattle.points.proofs.MendingLemmas.{mended-well_formed}
 use Rattle.machine.specs.declared.reads.Encoding.{Encoding}

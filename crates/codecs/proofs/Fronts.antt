@@ -1,19 +1,16 @@
 -- Texts that come in parts: the fronts of well-formed texts, and what waits at their ends.
-use Rattle.std.proofs.Common.{◌≡◌, ◌⊎◌, ℕ, zero, suc, ◌+◌, ◌-◌, ◌/◌, ◌%◌, ◌<◌, ◌≤◌, List, [], ◌∷◌, ◌++◌, length, take, drop, get_or, Option, Some, None, is_some, cond, Bool, true, false, not, ◌&&◌, ◌||◌, refl, sym, ap, ◌∙◌, subst, inl, inr, arith, length-append, append_assoc, append-nil, take_all}
+use Rattle.std.proofs.Common.{◌≡◌, ◌⊎◌, ℕ, zero, suc, ◌+◌, ◌-◌, ◌%◌, ◌<◌, List, [], ◌∷◌, ◌++◌, length, take, drop, get_or, Option, Some, None, is_some, cond, Bool, true, false, not, ◌&&◌, ◌||◌, refl, sym, ap, ◌∙◌, subst, inl, inr, arith, length-append, append_assoc, append-nil, take_all}
 use Rattle.std.proofs.Math.Seq.{get_or-append_seam, take-append_seam, drop-append_seam}
 use Rattle.std.proofs.lemmas.List.{append_cancel_right, get_or_past}
 use Rattle.std.specs.Option.{option_to_list}
-use Rattle.std.specs.Char.Escape.{encode_utf16}
 use Rattle.std.specs.Char.Utf16.{is_high_surrogate, is_low_surrogate}
 use Rattle.std.specs.Str.{all_scalars}
 use Rattle.std.proofs.lemmas.Bool.{cases_Bool, cases_lt}
 use Rattle.std.proofs.lemmas.Bool.Decides.{nat_tests}
-use Rattle.std.proofs.lemmas.Grind.{common_steps}
-use Rattle.points.specs.Text.{utf16, IsWellFormed, mended, mended_unit, is_unpaired}
-use Rattle.points.specs.Place.{splits_pair}
+use Rattle.points.specs.Text.{utf16, IsWellFormed, is_unpaired}
 use Rattle.points.proofs.WellFormedLemmas.{encode_one, encode_two, scalar_fits, scalar_parts, well_formed_cut, well_formed-nil, IsCut}
 use Rattle.points.proofs.MendingLemmas.{mended-well_formed, mended_units}
-use Rattle.codecs.specs.Partway.{waiting, completed, behind, IsFront, unit_waits}
+use Rattle.codecs.specs.Partway.{waiting, completed, IsFront, unit_waits}
 
 -- the units of a well-formed text are units
 small_front : (u : ℕ) (us : List ℕ) → u < 65536 → ((k : ℕ) → get_or us k 0 < 65536) → (k : ℕ) → get_or (u ∷ us) k 0 < 65536

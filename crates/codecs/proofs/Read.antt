@@ -1,12 +1,12 @@
 -- Bytes read as texts.
-use Rattle.std.proofs.Common.{◌≡◌, ℕ, zero, suc, ◌+◌, ◌-◌, ◌<◌, ◌≤◌, List, [], ◌∷◌, ◌++◌, length, take, drop, get_or, Result, Ok, Err, IfOk, String, string_bytes, encode_utf8_all, refl, sym, ap, ◌∙◌, subst, arith, append_assoc, append-nil}
+use Rattle.std.proofs.Common.{◌≡◌, ℕ, suc, ◌+◌, ◌<◌, ◌≤◌, List, [], ◌∷◌, ◌++◌, length, take, drop, get_or, Result, Ok, Err, IfOk, String, string_bytes, encode_utf8_all, refl, sym, ap, ◌∙◌, arith, append-nil}
 use Rattle.std.proofs.Math.Seq.{take-suc, drop-cons}
 use Rattle.std.proofs.Math.ListN.{drop_of_length-le}
 use Rattle.std.specs.Char.{encode_utf8}
 use Rattle.std.proofs.lemmas.Str.{chars_from_encodes, IsUtf8-string_bytes, encodes-append}
 use Rattle.points.specs.Text.{utf16, utf16_of}
 use Rattle.points.proofs.WellFormedLemmas.{encode_one}
-use Rattle.codecs.specs.Decoding.{paired, unit_of}
+use Rattle.codecs.specs.Decoding.{paired}
 
 -- a string of these characters has their units
 of_chars : {Z : Type 0} (s : String Z) (cs t : List ℕ) → string_bytes s ≡ encode_utf8_all cs → utf16 cs ≡ t → utf16_of (string_bytes s) ≡ t

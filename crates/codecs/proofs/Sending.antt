@@ -1,10 +1,9 @@
 -- Units taken on their way to a sink: one lot behind the other, puts in between, and faults.
-use Rattle.std.proofs.Common.{◌≡◌, ℕ, ◌+◌, ◌-◌, ◌*◌, ◌^◌, ◌<◌, ◌≤◌, min, List, [], ◌∷◌, ◌++◌, length, take, drop, Option, Some, None, IfSome, IsTrue, cond, Bool, true, false, refl, sym, ap, ◌∙◌, subst, inl, inr, arith, slice_range, get_or, take_all, length-drop, Result, Ok, Err, IfOk, OnErr, OnOk, length-append, append_assoc, append-nil}
+use Rattle.std.proofs.Common.{◌≡◌, ℕ, ◌+◌, ◌-◌, ◌*◌, ◌^◌, ◌<◌, ◌≤◌, min, List, [], ◌++◌, length, take, drop, Option, Some, None, IfSome, IsTrue, cond, Bool, true, false, refl, sym, ap, ◌∙◌, subst, arith, slice_range, get_or, take_all, length-drop, Result, Ok, Err, IfOk, OnErr, OnOk, length-append, append_assoc, append-nil}
 use Rattle.std.proofs.Math.Seq.{take-append-add}
 use Rattle.std.specs.Option.{option_to_list}
 use Rattle.std.specs.Char.Utf16.{is_high_surrogate}
 use Rattle.std.proofs.lemmas.List.{take-append-drop, length-take-le}
-use Rattle.std.proofs.lemmas.Bool.{cases_Bool}
 use Rattle.points.specs.Text.{IsWellFormed}
 use Rattle.points.specs.Point.{origin}
 use Rattle.points.specs.Place.{extent, splits_pair, line_of, clipped_column, clipped_offset, row_start}
@@ -12,10 +11,10 @@ use Rattle.points.specs.declared.point.Point.{Point}
 use Rattle.points.proofs.ClipLemmas.{clipped_offset_in, clipped_offset_past}
 use Rattle.chains.proofs.EditLemmas.{slice_whole}
 use Rattle.outer.specs.Sink.{Appends, AppendsPrefix}
-use Rattle.outer.proofs.Appended.{Appends-nil, Appends-append, AppendsPrefix-all, AppendsPrefix-append, AppendsPrefix-more}
+use Rattle.outer.proofs.Appended.{Appends-nil, Appends-append, AppendsPrefix-append, AppendsPrefix-more}
 use Rattle.machine.specs.declared.reads.Encoding.{Encoding}
 use Rattle.machine.specs.Encodings.{encode}
-use Rattle.codecs.specs.Partway.{Partway, waiting, completed, behind, IsFront}
+use Rattle.codecs.specs.Partway.{waiting, completed, behind, IsFront}
 use Rattle.codecs.specs.Saving.{Outgoing, ahead, weight, IsSent, IsGiven}
 use Rattle.codecs.proofs.Fronts.{parts_of, completed_good, waiting-append, completed-append, completed-all, waits_none, front-append, split_of}
 use Rattle.codecs.proofs.Spelled.{encode-append, encode-nil, encode_short}

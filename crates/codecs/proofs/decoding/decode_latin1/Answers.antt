@@ -1,4 +1,3 @@
-use Rattle.std.proofs.Common.{arith}
 use Rattle.codecs.proofs.Read.{one_more}
 use Rattle.codecs.proofs.decoding.decode_latin1.Goals as goal
 

@@ -1,4 +1,4 @@
-use Rattle.std.proofs.Common.{◌≡◌, ℕ, List, ◌∷◌, ◌++◌, [], sym, ap, ◌∙◌}
+use Rattle.std.proofs.Common.{ℕ, List, ◌∷◌, ◌++◌, [], sym, ap, ◌∙◌}
 use Rattle.machine.specs.declared.reads.Encoding.{Encoding}
 use Rattle.machine.specs.Encodings.{encode}
 use Rattle.codecs.proofs.Spelled.{lone_utf8, lone_latin1}

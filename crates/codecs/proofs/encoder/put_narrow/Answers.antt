@@ -1,6 +1,6 @@
 use Rattle.std.proofs.Common.{arith}
 use Rattle.std.proofs.lemmas.Grind.{common_steps}
-use Rattle.codecs.proofs.Spelled.{one_byte, two_bytes, three_bytes}
+use Rattle.codecs.proofs.Spelled.{two_bytes, three_bytes}
 use Rattle.codecs.proofs.encoder.put_narrow.Goals as goal
 
 pub returns-then-code-lt2048 : goal.returns-then-code-lt2048

@@ -1,4 +1,4 @@
-use Rattle.std.proofs.Common.{◌≡◌, ℕ, ◌<◌, ◌≤◌, List, ◌++◌, length, sym, ap, ◌∙◌, subst, arith, slice_range}
+use Rattle.std.proofs.Common.{◌≡◌, ℕ, ◌<◌, List, length, sym, ap, ◌∙◌, subst, arith, slice_range}
 use Rattle.std.proofs.lemmas.List.Sums.{count_by-le-length}
 use Rattle.points.specs.declared.point.Point.{Point}
 use Rattle.points.specs.declared.limits.TheConstants.{MAX_UNITS}
@@ -18,7 +18,7 @@ loop-piece-init g c =
     let from = c.new.ensures.start in
     let to = c.new.ensures.end in
     let pieces = c.pieces-piece-items.ensures ∙ (ap (λ (p : Point). slice_range text (clipped_offset text p) (clipped_offset text c.new.result.end)) from
-        ∙ (ap (λ (p : Point). slice_range text (clipped_offset text (record { row = 0; column = 0 })) (clipped_offset text p)) to ∙ all)) in
+    ∙ (ap (λ (p : Point). slice_range text (clipped_offset text (record { row = 0; column = 0 })) (clipped_offset text p)) to ∙ all)) in
     let gives = c.into_iter-piece-iterator.ensures.into_iter_gives in
     let whole : c.into_iter-piece-iterator.result ≡ text = cc in
     let empty = ap (λ (o : Outgoing). length o.held) c.new-out.ensures in

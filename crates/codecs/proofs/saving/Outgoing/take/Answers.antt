@@ -1,4 +1,4 @@
-use Rattle.std.proofs.Common.{◌≡◌, ℕ, ◌+◌, ◌-◌, ◌*◌, ◌^◌, ◌≤◌, List, length, take, drop, refl, sym, ap, subst, arith, length-drop}
+use Rattle.std.proofs.Common.{ℕ, ◌+◌, ◌*◌, ◌^◌, ◌≤◌, List, length, take, sym, ap, subst, arith, length-drop}
 use Rattle.outer.specs.Sink.{AppendsPrefix}
 use Rattle.codecs.specs.Partway.{behind, IsFront}
 use Rattle.codecs.specs.Saving.{ahead, weight, IsSent}

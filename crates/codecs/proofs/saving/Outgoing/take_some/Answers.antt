@@ -1,4 +1,4 @@
-use Rattle.std.proofs.Common.{◌≡◌, ◌≤◌, ◌^◌, refl, sym, ap, subst, take, length, ◌+◌, ◌*◌}
+use Rattle.std.proofs.Common.{◌≤◌, ◌^◌, refl, sym, subst, take, length, ◌+◌, ◌*◌}
 use Rattle.outer.specs.Sink.{AppendsPrefix}
 use Rattle.codecs.specs.Partway.{behind, IsFront}
 use Rattle.codecs.specs.Saving.{Outgoing, ahead, weight}
