@@ -1,5 +1,6 @@
 //! Bytes read as a text.
-ghost use Rattle.std.specs.Prelude.{◌≡◌, ◌+◌, ◌*◌, ◌≤◌, length, encode_utf8_all, IfOk, string_bytes};
+ghost use Rattle.std.specs.Prelude.{◌≡◌, ◌+◌, ◌*◌, ◌≤◌, length};
+ghost use Rattle.std.specs.Prelude.{encode_utf8_all, IfOk, string_bytes};
 ghost use Rattle.std.specs.Char.Utf16.{utf16_lossy_chars};
 ghost use Rattle.points.specs.Text.{utf16_of, text_of};
 ghost use Rattle.codecs.specs.Decoding.{decoded, paired, unit_of};

@@ -1,5 +1,6 @@
 //! A text taken unit by unit, and written as bytes in an encoding.
-ghost use Rattle.std.specs.Prelude.{◌≡◌, ℕ, ◌+◌, ◌<◌, ◌≤◌, [], ◌∷◌, ◌++◌, length, take, true, false, Some, None, if◌then◌else◌};
+ghost use Rattle.std.specs.Prelude.{◌≡◌, ℕ, ◌+◌, ◌<◌, ◌≤◌, [], ◌∷◌, ◌++◌, length, take};
+ghost use Rattle.std.specs.Prelude.{true, false, Some, None, if◌then◌else◌};
 ghost use Rattle.std.specs.Char.Utf16.{is_high_surrogate, is_low_surrogate, surrogate_pair_char};
 ghost use Rattle.std.specs.Char.{encode_utf8};
 ghost use Rattle.arrayvec.specs.ArrayVec.{array_vec_len};
@@ -10,8 +11,8 @@ use arrayvec::ArrayVec;
 use machine::Encoding;
 use std::marker::Model;
 
-/// What writes a text as bytes in an encoding, as its units come. Contracts see the encoding and the high surrogate that
-/// waits for its partner, if one does.
+/// What writes a text as bytes in an encoding, as its units come. Contracts see the encoding and the high surrogate
+/// that waits for its partner, if one does.
 #[derive(Debug, Drop)]
 pub struct Encoder {
     encoding: Encoding,
@@ -41,8 +42,8 @@ impl Encoder {
         }
     }
 
-    /// Takes units from the front while at least four bytes of room are left, and answers how many it took. The bytes of
-    /// each character that they complete are put at the end of `into`.
+    /// Takes units from the front while at least four bytes of room are left, and answers how many it took. The bytes
+    /// of each character that they complete are put at the end of `into`.
     pub fn step(&mut self, units: &[u16], into: &mut ArrayVec<u8, 4096>) -> usize
         requires { IsFront (behind self.old.waits units.now) }
         ensures within { result ≤ length units.now }

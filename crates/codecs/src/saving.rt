@@ -1,5 +1,6 @@
 //! A text written to a sink in an encoding.
-ghost use Rattle.std.specs.Prelude.{◌≡◌, ◌+◌, ◌*◌, ◌^◌, ◌<◌, ◌≤◌, [], None, length, take, IfOk, IfSome, OnOk, OnErr, IsTrue};
+ghost use Rattle.std.specs.Prelude.{◌≡◌, ◌+◌, ◌*◌, ◌^◌, ◌<◌, ◌≤◌, [], None, length, take};
+ghost use Rattle.std.specs.Prelude.{IfOk, IfSome, OnOk, OnErr, IsTrue};
 ghost use Rattle.std.specs.Char.Utf16.{is_high_surrogate};
 ghost use Rattle.outer.specs.Count.{Rose};
 ghost use Rattle.outer.specs.Sink.{Appends, AppendsPrefix};
@@ -28,15 +29,16 @@ impl From<Failed> for SaveFault {
     }
 }
 
-/// Puts the bytes of a reader's text to a sink, piece by piece, and sends them on. It answers how many there were, and takes
-/// no memory.
+/// Puts the bytes of a reader's text to a sink, piece by piece, and sends them on. It answers how many there were, and
+/// takes no memory.
 pub fn save<K: Sink>(reader: &Reader, encoding: Encoding, sink: &mut K) -> Result<u64, SaveFault>
     requires { IsWellFormed reader.now.text }
     ensures count { K.faults sink.old ≤ K.faults sink.new }
     ensures bytes { IfOk result (λ n. n ≡ length (encode encoding reader.now.text)) }
     ensures saved { OnOk result (Appends (encode encoding reader.now.text) (K.taken sink.old) (K.taken sink.new)) }
     ensures cause { OnErr result (Rose (K.faults sink.old) (K.faults sink.new)) }
-    ensures prefix { OnErr result (AppendsPrefix (encode encoding reader.now.text) (K.taken sink.old) (K.taken sink.new)) }
+    ensures prefix { OnErr result (AppendsPrefix (encode encoding reader.now.text)
+        (K.taken sink.old) (K.taken sink.new)) }
 {
     let out = put_text(reader, encoding, sink)?;
     finish(out, sink)
@@ -50,10 +52,12 @@ fn put_text<K: Sink>(
 ) -> Result<Outgoing, SaveFault>
     requires { IsWellFormed reader.now.text }
     ensures count { K.faults sink.old ≤ K.faults sink.new }
-    ensures given { IfOk result (λ out. IsGiven reader.now.text encoding [] out (K.taken sink.old) (K.taken sink.new)) }
+    ensures given { IfOk result (λ out.
+        IsGiven reader.now.text encoding [] out (K.taken sink.old) (K.taken sink.new)) }
     ensures small { IfOk result (λ out. weight out ≤ 2 ^ 63) }
     ensures cause { OnErr result (Rose (K.faults sink.old) (K.faults sink.new)) }
-    ensures prefix { OnErr result (AppendsPrefix (encode encoding reader.now.text) (K.taken sink.old) (K.taken sink.new)) }
+    ensures prefix { OnErr result (AppendsPrefix (encode encoding reader.now.text)
+        (K.taken sink.old) (K.taken sink.new)) }
 {
     prove!(reader.len() <= MAX_UNITS);
     let past = Point {
@@ -134,7 +138,8 @@ impl Outgoing {
         ensures some { IfOk result (λ n. 0 < n) }
         ensures within { IfOk result (λ n. n ≤ length units.now) }
         ensures room { OnOk result (length self.new.held ≤ 4092) }
-        ensures sent { IfOk result (λ n. IsSent (take n units.now) self.old self.new (K.taken sink.old) (K.taken sink.new)) }
+        ensures sent { IfOk result (λ n.
+            IsSent (take n units.now) self.old self.new (K.taken sink.old) (K.taken sink.new)) }
         ensures cause { OnErr result (Rose (K.faults sink.old) (K.faults sink.new)) }
         ensures failed { OnErr result (AppendsPrefix (ahead self.old units.now) (K.taken sink.old) (K.taken sink.new)) }
     {

@@ -17,7 +17,9 @@ loop-piece-init g c =
     let all = whole_range text past below in
     let from = c.new.ensures.start in
     let to = c.new.ensures.end in
-    let pieces = c.pieces-piece-items.ensures ∙ (ap (λ (p : Point). slice_range text (clipped_offset text p) (clipped_offset text c.new.result.end)) from
+    let range = slice_range text (clipped_offset text c.new.result.start) (clipped_offset text c.new.result.end) in
+    let pieces = ◌∙◌ {b = range} c.pieces-piece-items.ensures
+    (ap (λ (p : Point). slice_range text (clipped_offset text p) (clipped_offset text c.new.result.end)) from
     ∙ (ap (λ (p : Point). slice_range text (clipped_offset text (record { row = 0; column = 0 })) (clipped_offset text p)) to ∙ all)) in
     let gives = c.into_iter-piece-iterator.ensures.into_iter_gives in
     let whole : c.into_iter-piece-iterator.result ≡ text = cc in
