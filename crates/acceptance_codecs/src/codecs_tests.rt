@@ -80,12 +80,7 @@ fn sink_failing_at(alloc: Global, call: u64) -> Option<MemSink> {
 }
 
 // How many bytes are saved of the top's text, and whether these are the ones that the sink then has.
-fn saved(
-    alloc: Global,
-    shelf: &Shelf,
-    encoding: Encoding,
-    bytes: &[u8],
-) -> Option<(u64, bool)> {
+fn saved(alloc: Global, shelf: &Shelf, encoding: Encoding, bytes: &[u8]) -> Option<(u64, bool)> {
     let reader = whole_reader(alloc, shelf)?;
     let mut sink = sink_failing_at(alloc, 0)?;
     let count = save(&reader, encoding, &mut sink).ok()?;
@@ -129,7 +124,10 @@ fn writes_characters_in_each_encoding(rt: HostRuntime) {
         (Encoding::Latin1, "\u{1F600}", b"?"),
         (Encoding::Utf8, "", b""),
     ] {
-        assert!(rt; writes(rt.alloc(), text, encoding, bytes), "{text} {encoding:?}");
+        assert!(rt;
+            writes(rt.alloc(), text, encoding, bytes),
+            "{text} {encoding:?}"
+        );
     }
 }
 
@@ -172,20 +170,35 @@ fn replaces_what_is_no_character(rt: HostRuntime) {
 #[test]
 fn replaces_surrogates_that_lack_their_partner(rt: HostRuntime) {
     for (encoding, bytes, text) in [
-        (Encoding::Utf16Le, [0x3D, 0xD8, 0x00, 0xDE].as_slice(), "\u{1F600}"),
+        (
+            Encoding::Utf16Le,
+            [0x3D, 0xD8, 0x00, 0xDE].as_slice(),
+            "\u{1F600}",
+        ),
         (Encoding::Utf16Be, &[0xD8, 0x3D, 0xDE, 0x00], "\u{1F600}"),
         (Encoding::Utf16Le, &[0x00, 0xDE], "\u{FFFD}"),
         (Encoding::Utf16Be, &[0xD8, 0x3D], "\u{FFFD}"),
         (Encoding::Utf16Le, &[0x3D, 0xD8, 0x41, 0x00], "\u{FFFD}A"),
-        (Encoding::Utf16Be, &[0xD8, 0x3D, 0xD8, 0x3D, 0xDE, 0x00], "\u{FFFD}\u{1F600}"),
-        (Encoding::Utf16Le, &[0x00, 0xDE, 0x3D, 0xD8], "\u{FFFD}\u{FFFD}"),
+        (
+            Encoding::Utf16Be,
+            &[0xD8, 0x3D, 0xD8, 0x3D, 0xDE, 0x00],
+            "\u{FFFD}\u{1F600}",
+        ),
+        (
+            Encoding::Utf16Le,
+            &[0x00, 0xDE, 0x3D, 0xD8],
+            "\u{FFFD}\u{FFFD}",
+        ),
         (Encoding::Utf16Le, &[0x41], "\u{FFFD}"),
         (Encoding::Utf16Be, &[0x00, 0x41, 0x00], "A\u{FFFD}"),
         (Encoding::Utf16Be, &[0xD8, 0x3D, 0xDE], "\u{FFFD}\u{FFFD}"),
         (Encoding::Latin1, &[0xFF, 0x41, 0x80], "\u{FF}A\u{80}"),
         (Encoding::Latin1, &[], ""),
     ] {
-        assert!(rt; reads(rt.alloc(), encoding, bytes, text), "{encoding:?} {bytes:?}");
+        assert!(rt;
+            reads(rt.alloc(), encoding, bytes, text),
+            "{encoding:?} {bytes:?}"
+        );
     }
 }
 
@@ -229,7 +242,9 @@ fn put_plainly(encoding: Encoding, c: char, bytes: &mut Vec<u8>) -> Option<()> {
     let mut room = [0; 4];
     let mut units = [0; 2];
     match encoding {
-        Encoding::Utf8 => bytes.extend_from_slice(c.encode_utf8(&mut room).as_bytes()).ok(),
+        Encoding::Utf8 => bytes
+            .extend_from_slice(c.encode_utf8(&mut room).as_bytes())
+            .ok(),
         Encoding::Utf16Le => {
             for unit in c.encode_utf16(&mut units) {
                 bytes.extend_from_slice(&unit.to_le_bytes()).ok()?;
@@ -366,7 +381,10 @@ fn a_fault_of_the_sink_leaves_a_prefix(rt: HostRuntime) -> Result<(), Fail> {
         (4, Some(9010)),
         (5, None),
     ] {
-        assert!(rt; taken_before_a_fault(rt.alloc(), &shelf, call) == Some(taken), "{call}");
+        assert!(rt;
+            taken_before_a_fault(rt.alloc(), &shelf, call) == Some(taken),
+            "{call}"
+        );
     }
     Ok(())
 }

@@ -37,7 +37,11 @@ fn front(first: u8, bytes: &[u8]) -> (char, usize) {
     }
     let mut code = u32::from(first_bits(first, len));
     for at in 1..len {
-        let (least, greatest) = if at == 1 { (least, greatest) } else { (0x80, 0xBF) };
+        let (least, greatest) = if at == 1 {
+            (least, greatest)
+        } else {
+            (0x80, 0xBF)
+        };
         match bytes.get(at) {
             Some(byte) if least <= *byte && *byte <= greatest => {
                 code = code.wrapping_mul(64).wrapping_add(u32::from(*byte % 64));

@@ -4,3 +4,4 @@ pub mod Steps
 pub mod Read
 pub mod Sending
 pub mod Again
+pub mod Worked
