@@ -45,10 +45,12 @@ fn at(column: u32) -> Point {
     Point { row: 0, column }
 }
 
+const START: Point = Point { row: 0, column: 0 };
+
 // Inserts a letter at the start.
 fn insert(alloc: Global, letter: &str) -> Option<Command> {
     Some(Command::Edit {
-        range: Range::new(at(0), at(0)),
+        range: Range::new(START, START),
         text: text(alloc, letter)?,
     })
 }
