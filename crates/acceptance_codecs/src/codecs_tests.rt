@@ -1,5 +1,6 @@
-//! Encodings: characters of one, two and more bytes in each, bytes that are no character, texts in layers whose pairs are
-//! parted, sinks that fail, and every start of a character with every class of byte behind it beside a plain slow reading.
+//! Encodings: characters of one, two and more bytes in each, bytes that are no character, texts in layers that part
+//! pairs, sinks that fail, and every start of a character with every class of byte behind it, beside a plain slow
+//! reading.
 ghost use Rattle.std.specs.Prelude.{◌≡◌, IfSome, IsTrue};
 ghost use Rattle.points.specs.Text.{IsWellFormed};
 
@@ -202,8 +203,8 @@ fn replaces_surrogates_that_lack_their_partner(rt: HostRuntime) {
     }
 }
 
-// One byte of each class that Table 3-7 tells apart, and those at the ends of its rows. A sequence has a digit a byte; the
-// digit behind the last class stands for no byte.
+// The bytes at the ends of the classes that Table 3-7 tells apart. A sequence has a digit a byte; the digit behind the
+// last class stands for no byte.
 const CLASSES: [u8; 19] = [
     0x00, 0x41, 0x7F, 0x80, 0x8F, 0x90, 0x9F, 0xA0, 0xBF, 0xC0, 0xC2, 0xDF, 0xE0, 0xED, 0xEF, 0xF0,
     0xF4, 0xF5, 0xFF,
