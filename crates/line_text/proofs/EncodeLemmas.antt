@@ -1,10 +1,14 @@
 -- A text that is encoded character by character: what the units so far and the next character's take.
-use Rattle.std.proofs.Common.{◌≡◌, ℕ, ◌+◌, ◌-◌, ◌/◌, ◌%◌, Bool, inl, inr, ◌<◌, ◌≤◌, List, [], ◌∷◌, ◌++◌, length, take, drop, get_or, map, cond, refl, sym, ap, ◌∙◌, subst, arith, length-append}
+use Rattle.std.proofs.Common.{◌≡◌, ℕ, suc, ◌+◌, ◌-◌, ◌/◌, ◌%◌, Bool, inl, inr, ◌<◌, ◌≤◌, List, [], ◌∷◌, ◌++◌, length, take, drop, get_or, map, cond, refl, sym, ap, ◌∙◌, subst, arith, length-append}
 use Rattle.std.specs.Char.Escape.{encode_utf16}
 use Rattle.std.proofs.lemmas.List.{take-append-drop, drop_more, map-id}
 use Rattle.std.proofs.lemmas.Bool.Decides.{nat_tests}
 use Rattle.std.proofs.lemmas.Bool.{cases_lt, lt-ltb, le-ltb}
-use Rattle.points.specs.Text.{utf16}
+use Rattle.std.specs.Prelude.{IsAscii}
+use Rattle.std.specs.Str.{chars}
+use Rattle.std.proofs.lemmas.Str.{chars-IsAscii}
+use Rattle.std.proofs.lemmas.List.Concat.{flat_map-cons}
+use Rattle.points.specs.Text.{utf16, utf16_of}
 use Rattle.line_text.specs.declared.encode.Size.{Size}
 use Rattle.points.proofs.TextLemmas.{utf16-append}
 use Rattle.points.proofs.ExtentLemmas.{feeds, feeds-append}
@@ -43,3 +47,15 @@ size units line_feeds = record { units = units; feeds = line_feeds }
 
 pub same_size : (a b : Size) → a.units ≡ b.units → a.feeds ≡ b.feeds → a ≡ b
 same_size a b units line_feeds = ap (λ (n : ℕ). size n a.feeds) units ∙ ap (λ (n : ℕ). size b.units n) line_feeds
+
+encode_small : (b : ℕ) → b < 128 → encode_utf16 b ≡ b ∷ []
+encode_small b h = grind (arith, nat_tests)
+
+utf16_of_small : (bytes : List ℕ) → IsAscii bytes → utf16 bytes ≡ bytes
+utf16_of_small [] h = refl
+utf16_of_small (b ∷ bytes) h = flat_map-cons encode_utf16 b bytes
+    ∙ (ap (λ (x : List ℕ). x ++ utf16 bytes) (encode_small b (h 0)) ∙ ap (λ (x : List ℕ). b ∷ x) (utf16_of_small bytes (λ i. h (suc i))))
+
+-- the units of a text of ASCII are its bytes
+pub utf16_of_ascii : (bytes : List ℕ) → IsAscii bytes → utf16_of bytes ≡ bytes
+utf16_of_ascii bytes h = ap utf16 (chars-IsAscii bytes h) ∙ utf16_of_small bytes h

@@ -17,6 +17,30 @@ pub(crate) struct Size {
 pub(crate) fn size_within(text: &str, room: usize) -> Option<Size>
     ensures { SomeIff result (length (utf16_of text.now) ≤ room) (size_of (utf16_of text.now)) }
 {
+    if text.is_ascii() {
+        size_by_bytes(text.as_bytes(), room)
+    } else {
+        size_by_chars(text, room)
+    }
+}
+
+// The size of a text whose units are its bytes.
+fn size_by_bytes(bytes: &[u8], room: usize) -> Option<Size>
+    ensures { SomeIff result (length bytes.now ≤ room) (size_of bytes.now) }
+{
+    if room < bytes.len() {
+        return None;
+    }
+    Some(Size {
+        units: bytes.len(),
+        feeds: bytes.iter().filter(|byte| **byte == b'\n').count(),
+    })
+}
+
+// The size, character by character.
+fn size_by_chars(text: &str, room: usize) -> Option<Size>
+    ensures { SomeIff result (length (utf16_of text.now) ≤ room) (size_of (utf16_of text.now)) }
+{
     let mut size = Size { units: 0, feeds: 0 };
     for c in text.chars() {
         if room - size.units < c.len_utf16() {
@@ -32,6 +56,28 @@ pub(crate) fn size_within(text: &str, room: usize) -> Option<Size>
 
 /// Writes the units of `text` into `into`, which has as many places.
 pub(crate) fn write_units(into: &mut [u16], text: &str)
+    requires { length into.old ≡ length (utf16_of text.now) }
+    ensures { into.new ≡ utf16_of text.now }
+{
+    if text.is_ascii() {
+        write_bytes(into, text.as_bytes());
+    } else {
+        write_chars(into, text);
+    }
+}
+
+// Writes the units of a text whose units are its bytes.
+fn write_bytes(into: &mut [u16], bytes: &[u8])
+    requires { length into.old ≡ length bytes.now }
+    ensures { into.new ≡ bytes.now }
+{
+    for at in 0..bytes.len() {
+        into[at] = bytes[at] as u16;
+    }
+}
+
+// Writes the units, character by character.
+fn write_chars(into: &mut [u16], text: &str)
     requires { length into.old ≡ length (utf16_of text.now) }
     ensures { into.new ≡ utf16_of text.now }
 {

@@ -1,6 +1,6 @@
 use Rattle.std.proofs.Common.{◌≡◌, length, take}
 use Rattle.points.specs.Text.{utf16}
-use Rattle.line_text.proofs.encode.write_units.Given as goal
+use Rattle.line_text.proofs.encode.write_chars.Given as goal
 
 abbrev pub invariant-loop-c : goal.invariant-loop-c
 invariant-loop-c l = record {

@@ -1,7 +1,7 @@
 use Rattle.std.proofs.Common.{◌≡◌, ◌≤◌}
 use Rattle.points.specs.Text.{utf16}
 use Rattle.line_text.specs.Size.{size_of}
-use Rattle.line_text.proofs.encode.size_within.Given as goal
+use Rattle.line_text.proofs.encode.size_by_chars.Given as goal
 
 abbrev pub invariant-loop-c : goal.invariant-loop-c
 invariant-loop-c l = record {
