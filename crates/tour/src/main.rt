@@ -26,17 +26,15 @@ fn main(rt: HostRuntime) -> Result<()> {
 
     // Two edits, one after the other: each answers its patch.
     let one = edit(alloc, &mut text, range(1, 6, 6)?, "\"area\", ")?;
-    follow(&mut marks, &one)?;
-    show(&rt, "after one edit", &text, &marks)?;
     let two = edit(alloc, &mut text, range(0, 7, 12)?, "2 *\n  width")?;
-    follow(&mut marks, &two)?;
+
+    // Both edits as one patch, which the marks follow.
+    let both = compose(alloc, &one, &two)?;
+    follow(&mut marks, &both)?;
     show(&rt, "after two edits", &text, &marks)?;
 
-    // Both edits as one patch, and that patch back.
-    let both = compose(alloc, &one, &two)?;
-    list(&rt, "both edits", &both)?;
+    // That patch back.
     let back = both.invert()?;
-    list(&rt, "both undone", &back)?;
     let text = apply(alloc, &back, &text)?;
     follow(&mut marks, &back)?;
     show(&rt, "at last", &text, &marks)
@@ -73,10 +71,8 @@ fn follow(marks: &mut MarkerIndex, patch: &Patch) -> Result<()> {
 
 // From one column of a row to another.
 fn range(row: u32, from: u32, to: u32) -> Result<Range> {
-    let start = Point { row, column: from };
-    let end = Point { row, column: to };
-    ensure!(start <= end, "a range ends before it starts");
-    Ok(Range::new(start, end))
+    ensure!(from <= to, "a range ends before it starts");
+    Ok(Range::new(Point { row, column: from }, Point { row, column: to }))
 }
 
 // Prints a text, and where its two marks are.
@@ -88,20 +84,6 @@ fn show(rt: &impl Print, title: &str, text: &LineText, marks: &MarkerIndex) -> R
         println!(rt;
             "  mark {id}: {}:{} to {}:{}",
             start.row, start.column, end.row, end.column
-        )?;
-    }
-    Ok(())
-}
-
-// Prints the changes of a patch.
-fn list(rt: &impl Print, title: &str, patch: &Patch) -> Result<()> {
-    println!(rt; "{title}:")?;
-    for change in patch.changes() {
-        let start = change.old_range.start;
-        let (old, new) = (change.old_text.len(), change.new_text.len());
-        println!(rt;
-            "  at {}:{} {old} units give way to {new}",
-            start.row, start.column
         )?;
     }
     Ok(())
