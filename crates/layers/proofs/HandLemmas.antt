@@ -70,6 +70,19 @@ others_same s us same =
     map-append unmasked us (top_alone s) ∙ (ap (λ (l : Shelved). l ++ map unmasked (top_alone s)) same
     ∙ (sym (map-append unmasked (others_of s) (top_alone s)) ∙ ap (map unmasked) (take-append-drop (length s - 1) s)))
 
+-- the top stays the one it was
+ids_alone : (s t : Shelved) → map unmasked t ≡ map unmasked s → top_id t ≡ top_id s
+ids_alone s t same = sym (same_id t) ∙ (ap (λ (l : Shelved). top_id l) same ∙ same_id s)
+
+pub noted_id : (s : Shelved) (place hands : ℕ) → top_id (map (noted place hands) s) ≡ top_id s
+noted_id s place hands = ids_alone s (map (noted place hands) s) (noted_same place hands s)
+
+pub quieted_id : (s : Shelved) (hands : ℕ) → top_id (quieted hands s) ≡ top_id s
+quieted_id s hands = ids_alone s (quieted hands s) (others_same s (map (without hands) (others_of s)) (without_same hands (others_of s)))
+
+pub narrowed_id : (s : Shelved) → top_id (narrowed s) ≡ top_id s
+narrowed_id s = ids_alone s (narrowed s) (others_same s (newest_alone (others_of s)) (newest_same (others_of s)))
+
 pub noted_top : (s : Shelved) (place hands : ℕ) → top_held (map (noted place hands) s) ≡ top_held s
 noted_top s place hands = hands_alone s (map (noted place hands) s) (noted_same place hands s)
 
@@ -88,16 +101,25 @@ top_last s e some top =
     let alone : top_alone s ≡ e ∷ [] = drop-cons s (length s - 1) e (omega arith) ∙ (ap (λ (x : Placed Versioned). x ∷ drop (suc (length s - 1)) s) one ∙ ap (λ (l : Shelved). e ∷ l) none) in
     sym (take-append-drop (length s - 1) s) ∙ ap (λ (l : Shelved). others_of s ++ l) alone
 
-pub collected_top : (s : Shelved) → IsTable s → top_held (filter (is_kept s) s) ≡ top_held s
-collected_top s is =
+kept_last : (s : Shelved) → IsTable s → top_of (filter (is_kept s) s) ≡ top_of s
+kept_last s is =
     let top = top_there s is.some in
     let e = top.0 in
     let kept = keeps_top s is e top.1 top.2 in
     let alone : filter (is_kept s) (e ∷ []) ≡ e ∷ [] = rw kept refl in
     let split : filter (is_kept s) s ≡ filter (is_kept s) (others_of s) ++ e ∷ [] = ap (filter (is_kept s)) (top_last s e is.some top.2)
     ∙ (filter-append (is_kept s) (others_of s) (e ∷ []) ∙ ap (λ (l : Shelved). filter (is_kept s) (others_of s) ++ l) alone) in
-    let last : top_of (filter (is_kept s) s) ≡ Some e = ap (λ (l : Shelved). top_of l) split ∙ last_got (filter (is_kept s) (others_of s)) e in
+    ap (λ (l : Shelved). top_of l) split ∙ (last_got (filter (is_kept s) (others_of s)) e ∙ sym top.2)
+
+pub collected_id : (s : Shelved) → IsTable s → top_id (filter (is_kept s) s) ≡ top_id s
+collected_id s is = ap (λ (o : Option (Placed Versioned)). unwrap_or (option_map id_of o) no_id) (kept_last s is)
+
+pub collected_top : (s : Shelved) → IsTable s → top_held (filter (is_kept s) s) ≡ top_held s
+collected_top s is =
+    let top = top_there s is.some in
+    let e = top.0 in
+    let kept = keeps_top s is e top.1 top.2 in
     let here = here_is s is e top.1 in
-    let new = ap (held_at (filter (is_kept s) s)) (top_is (filter (is_kept s) s) e last) ∙ held_there (filter (is_kept s) s) e.place e (found_filter (λ x. x.place == e.place) (is_kept s) s e here kept) in
+    let new = ap (held_at (filter (is_kept s) s)) (top_is (filter (is_kept s) s) e (kept_last s is ∙ top.2)) ∙ held_there (filter (is_kept s) s) e.place e (found_filter (λ x. x.place == e.place) (is_kept s) s e here kept) in
     let old = ap (held_at s) (top_is s e top.2) ∙ held_there s e.place e here in
     new ∙ sym old

@@ -1,10 +1,11 @@
 -- What layers do to the text, and what an installed layer does to a shelf.
 use Rattle.std.proofs.Common.{◌≡◌, ◌≢◌, ℕ, ◌+◌, ◌-◌, Bool, true, false, cond, List, [], ◌∷◌, ◌++◌, length, length-append, Option, Some, None, refl, ap, ◌∙◌, arith}
-use Rattle.std.specs.Prelude.{nat_lt, if◌then◌else◌, find, slice_get, ◌==◌}
+use Rattle.std.specs.Prelude.{nat_lt, if◌then◌else◌, find, slice_get, option_map, ◌==◌}
+use Rattle.std.specs.Option.{unwrap_or}
 use Rattle.points.specs.Text.{replaced}
 use Rattle.patch.specs.Tagged.{Tagged, tagged, units_of, edited}
 use Rattle.places.specs.declared.placed.Placed.{Placed}
-use Rattle.places.specs.Placed.{placed_at, depth_on, top_of, top_id}
+use Rattle.places.specs.Placed.{placed_at, depth_on, top_of, top_id, id_of}
 use Rattle.places.specs.Table.{IsLowestFree}
 use Rattle.places.proofs.StandLemmas.{same_number, number_not}
 use Rattle.chains.specs.Layered.{Layered, text_above, on_base, depth_of, size_of, is_small, is_within, with_layer, changed_above, after_change, squashed, tags_since, whole_text}
@@ -87,3 +88,7 @@ installed_top s p free n =
 -- and what stands elsewhere stays
 pub installed_others : (s : Shelved) (p : ℕ) (n : Unplaced) (q : ℕ) → p ≢ q → placed_at (installed s p n) q ≡ placed_at s q
 installed_others s p n q other = find_other (λ e. e.place == q) s (entry s p n) (number_not p q other)
+
+-- a top comes after those before it
+pub installed_age : (s : Shelved) (p : ℕ) (n : Unplaced) → (top_id (installed s p n)).age ≡ (top_id s).age + 1
+installed_age s p n = ap (λ (o : Option (Placed Versioned)). (unwrap_or (option_map id_of o) (record { place = 0; age = 0; depth = 0 })).age) (last_got s (entry s p n))

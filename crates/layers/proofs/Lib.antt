@@ -3,3 +3,4 @@ pub mod ShelfLemmas
 pub mod BuildLemmas
 pub mod LawLemmas
 pub mod HandLemmas
+pub mod EventLemmas
