@@ -11,12 +11,13 @@ use Rattle.points.specs.declared.point.Point.{Point}
 use Rattle.points.specs.declared.mark.Mark.{Mark}
 use Rattle.points.specs.declared.range.Range.{Range}
 use Rattle.points.specs.declared.limits.TheConstants.{MAX_UNITS, MAX_MARKS, MAX_STEPS}
-use Rattle.points.specs.Text.{replaced}
+use Rattle.points.specs.Text.{replaced, IsWellFormed}
 use Rattle.points.specs.Place.{point_at, offset_of, clip, clipped_offset}
 use Rattle.points.specs.MarkList.{mark_with, with_mark, without_mark, with_exclusive, made_exclusive, all_moved}
 use Rattle.points.specs.Marks.{moved}
 use Rattle.points.specs.MarkText.{IsMarkOf, IsPointOf, splice_in}
 use Rattle.points.proofs.ClipLemmas.{clipped_at, clipped_offset_mono}
+use Rattle.points.proofs.EndingLemmas.{well_formed_edit}
 use Rattle.points.proofs.ExtentParts.{point_at-replaced_before}
 use Rattle.points.proofs.MarkTextLemmas.{marks_moved}
 use Rattle.points.proofs.OffsetLemmas.{offset_of-at}
@@ -26,7 +27,7 @@ use Rattle.machine.specs.declared.reply.Reply.{Reply}
 use Rattle.buffer.specs.Seen.{answered}
 use Rattle.machine.specs.declared.reply.CallRefusal.TheVariants as no
 use Rattle.machine.specs.Machine.{State, Change, Step, Call, Answer, Watching, Refused, Done, between, changed, change_of, splice_at, put, counted, edited, edited_one, nothing_made, one_made, undo_step, redo_step, tells, with_marks, on_mark, with_watchers, with_watcher, watcher_with, unwatch_step, step, opened, edit, batch, undo, redo, look, add_mark, remove_mark, set_exclusive, mark_range, find_marks, compare_marks, watch, unwatch}
-use Rattle.buffer.specs.Sound.{Leads, LeadsOn, LeadsBack, LeadInTurn, IsSound, is_single}
+use Rattle.buffer.specs.Sound.{Leads, LeadsOn, LeadsBack, LeadInTurn, IsSound, IsSingle}
 use Rattle.buffer.proofs.TextLemmas.{splice_is}
 use Rattle.buffer.proofs.UndoLemmas.{leads_at, gives_at}
 
@@ -57,20 +58,21 @@ put_back t i j s order within =
     ∙ (ap (λ (xs : List ℕ). xs ++ drop j t) (joined_again t i j order) ∙ take-append-drop j t))
 
 -- a change leads back
-pub turned : (t u : List ℕ) (i j : ℕ) (s : List ℕ) → i ≤ j → j ≤ length t → length t ≤ MAX_UNITS → u ≡ replaced t i j s → Leads (point_at t i) s (between t i j) u t
-turned t u i j s order within short is = rw is (record {
+pub turned : (t u : List ℕ) (i j : ℕ) (s : List ℕ) → i ≤ j → j ≤ length t → length t ≤ MAX_UNITS → IsWellFormed t → u ≡ replaced t i j s → Leads (point_at t i) s (between t i j) u t
+turned t u i j s order within short whole is = rw is (record {
   offset = i;
   here = point_at-replaced_before t i j i s (omega arith) (omega arith);
   within = omega (arith, length-replaced t i j s order within);
   stands = middle t i j s (omega arith);
   gives = sym (put_back t i j s order within);
   short = short;
+  whole = whole;
 })
 
-pub leads_back : (start : Point) (old new t u : List ℕ) → length t ≤ MAX_UNITS → Leads start old new t u → Leads start new old u t
-leads_back start old new t u short h =
+pub leads_back : (start : Point) (old new t u : List ℕ) → length t ≤ MAX_UNITS → IsWellFormed t → Leads start old new t u → Leads start new old u t
+leads_back start old new t u short whole h =
     subst (λ (p : Point). Leads p new old u t) h.here (subst (λ (xs : List ℕ). Leads (point_at t h.offset) new xs u t) h.stands
-    (turned t u h.offset (h.offset + length old) new (omega arith) h.within short h.gives))
+    (turned t u h.offset (h.offset + length old) new (omega arith) h.within short whole h.gives))
 
 lead_take : (R : Step → List ℕ → List ℕ → Type 0) (n : ℕ) (t : List ℕ) (steps : List Step) → LeadInTurn R t steps → LeadInTurn R t (take n steps)
 lead_take R zero t [] all = all
@@ -83,27 +85,28 @@ lead_take R (suc n) t (x ∷ xs) (u, here, rest) = (u, here, lead_take R n u xs 
 marks_after : (s : State) (i j : ℕ) (new : List ℕ) → i ≤ j → j ≤ length s.text → All (IsMarkOf s.text) s.marks → All (IsMarkOf (replaced s.text i j new)) (all_moved (splice_at s.text i j new) s.marks)
 marks_after s i j new order within marks = rw (splice_is s.text i j new order within) (marks_moved s.text new i j order within s.marks marks)
 
-pub sound_edit : (s : State) (i j : ℕ) (new : List ℕ) → i ≤ j → j ≤ length s.text → length (replaced s.text i j new) ≤ MAX_UNITS → IsSound s
+pub sound_edit : (s : State) (i j : ℕ) (new : List ℕ) → i ≤ j → j ≤ length s.text → length (replaced s.text i j new) ≤ MAX_UNITS → IsWellFormed (replaced s.text i j new) → IsSound s
     → IsSound (record (changed s i j new) { past = take MAX_STEPS ((change_of s i j new ∷ []) ∷ s.past); future = [] })
-sound_edit s i j new order within short h = record {
+sound_edit s i j new order within short whole h = record {
   short = short;
+  whole = whole;
   few_marks = omega (arith, h.few_marks, length-map s.marks (moved (splice_at s.text i j new)));
   marks = marks_after s i j new order within h.marks;
-  past = lead_take LeadsBack MAX_STEPS (replaced s.text i j new) ((change_of s i j new ∷ []) ∷ s.past) (s.text, turned s.text (replaced s.text i j new) i j new order within h.short refl, h.past);
+  past = lead_take LeadsBack MAX_STEPS (replaced s.text i j new) ((change_of s i j new ∷ []) ∷ s.past) (s.text, turned s.text (replaced s.text i j new) i j new order within h.short h.whole refl, h.past);
   future = record {};
 }
 
 -- ---- the state after a call
 
 sound_counted : (s : State) → IsSound s → IsSound (counted s)
-sound_counted s h = record { short = h.short; few_marks = h.few_marks; marks = h.marks; past = h.past; future = h.future }
+sound_counted s h = record { short = h.short; whole = h.whole; few_marks = h.few_marks; marks = h.marks; past = h.past; future = h.future }
 
-sound_member : (s : State) (i j : ℕ) (new : List ℕ) (nothing long : Bool) → i ≤ j → j ≤ length s.text → nat_lt MAX_UNITS (length (replaced s.text i j new)) ≡ long → IsSound s
+sound_member : (s : State) (i j : ℕ) (new : List ℕ) (nothing long : Bool) → i ≤ j → j ≤ length s.text → nat_lt MAX_UNITS (length (replaced s.text i j new)) ≡ long → IsWellFormed (replaced s.text i j new) → IsSound s
     → IsSound (edited s edited_one (cond nothing (Some (nothing_made s i)) (cond long None (Some (one_made s i j new))))).0
-sound_member s i j new true long order within is h = sound_counted s h
-sound_member s i j new false true order within is h = sound_counted s h
-sound_member s i j new false false order within is h = let e = sound_edit s i j new order within (ltb-false MAX_UNITS (length (replaced s.text i j new)) is) h in
-    record { short = e.short; few_marks = e.few_marks; marks = e.marks; past = e.past; future = e.future }
+sound_member s i j new true long order within is whole h = sound_counted s h
+sound_member s i j new false true order within is whole h = sound_counted s h
+sound_member s i j new false false order within is whole h = let e = sound_edit s i j new order within (ltb-false MAX_UNITS (length (replaced s.text i j new)) is) whole h in
+    record { short = e.short; whole = e.whole; few_marks = e.few_marks; marks = e.marks; past = e.past; future = e.future }
 
 sound_undo : (s : State) (past : List Step) → LeadInTurn LeadsBack s.text past → IsSound s → IsSound (undo_step s past).0
 sound_undo s [] leads h = sound_counted s h
@@ -114,10 +117,11 @@ sound_undo s ((c ∷ []) ∷ rest) (u, here, more) h =
     let is : replaced s.text (unwrap_or (offset_of s.text c.start) 0) (unwrap_or (offset_of s.text c.start) 0 + length c.new) c.old ≡ u = gives_at c.start c.new c.old s.text u here in
     record {
       short = rw is here.short;
+      whole = rw is here.whole;
       few_marks = omega (arith, h.few_marks, length-map s.marks (moved (splice_at s.text (unwrap_or (offset_of s.text c.start) 0) (unwrap_or (offset_of s.text c.start) 0 + length c.new) c.old)));
       marks = marks_after s _ _ c.old (omega arith) at.within h.marks;
       past = rw is more;
-      future = rw is (s.text, leads_back c.start c.new c.old s.text u h.short here, h.future);
+      future = rw is (s.text, leads_back c.start c.new c.old s.text u h.short h.whole here, h.future);
     }
 
 sound_redo : (s : State) (future : List Step) → LeadInTurn LeadsOn s.text future → IsSound s → IsSound (redo_step s future).0
@@ -129,15 +133,16 @@ sound_redo s ((c ∷ []) ∷ rest) (u, here, more) h =
     let is : replaced s.text (unwrap_or (offset_of s.text c.start) 0) (unwrap_or (offset_of s.text c.start) 0 + length c.old) c.new ≡ u = gives_at c.start c.old c.new s.text u here in
     record {
       short = rw is here.short;
+      whole = rw is here.whole;
       few_marks = omega (arith, h.few_marks, length-map s.marks (moved (splice_at s.text (unwrap_or (offset_of s.text c.start) 0) (unwrap_or (offset_of s.text c.start) 0 + length c.old) c.new)));
       marks = marks_after s _ _ c.new (omega arith) at.within h.marks;
-      past = rw is (s.text, leads_back c.start c.old c.new s.text u h.short here, h.past);
+      past = rw is (s.text, leads_back c.start c.old c.new s.text u h.short h.whole here, h.past);
       future = rw is more;
     }
 
 -- other marks
 sound_marks : (s : State) (ms : List Mark) → length ms ≤ MAX_MARKS → All (IsMarkOf s.text) ms → IsSound s → IsSound (with_marks s ms).0
-sound_marks s ms few all h = record { short = h.short; few_marks = few; marks = all; past = h.past; future = h.future }
+sound_marks s ms few all h = record { short = h.short; whole = h.whole; few_marks = few; marks = all; past = h.past; future = h.future }
 
 clipped_point : (t : List ℕ) (p : Point) → IsPointOf t (clip t p)
 clipped_point t p = let at = clipped_at t p in record { offset = clipped_offset t p; within = at.within; is = at.point }
@@ -176,16 +181,17 @@ sound_watch : (s : State) (ws : List Watching) (taken full : Bool) → IsSound s
     → IsSound (cond taken (tells s (Refused no.WatchTaken)) (cond full (tells s (Refused no.WatchFull)) (with_watchers s ws Done))).0
 sound_watch s ws true full h = sound_counted s h
 sound_watch s ws false true h = sound_counted s h
-sound_watch s ws false false h = record { short = h.short; few_marks = h.few_marks; marks = h.marks; past = h.past; future = h.future }
+sound_watch s ws false false h = record { short = h.short; whole = h.whole; few_marks = h.few_marks; marks = h.marks; past = h.past; future = h.future }
 
 sound_unwatch : (s : State) (id : ℕ) (o : Option Watching) → IsSound s → IsSound (unwatch_step s id o).0
 sound_unwatch s id None h = sound_counted s h
-sound_unwatch s id (Some w) h = record { short = h.short; few_marks = h.few_marks; marks = h.marks; past = h.past; future = h.future }
+sound_unwatch s id (Some w) h = record { short = h.short; whole = h.whole; few_marks = h.few_marks; marks = h.marks; past = h.past; future = h.future }
 
-pub sound_step : (s : State) (call : Call) → is_single call ≡ true → IsSound s → IsSound (step s call).0
+pub sound_step : (s : State) (call : Call) → IsSingle call → IsSound s → IsSound (step s call).0
 unfolding step
-sound_step s (edit e) single h = sound_member s (clipped_offset s.text e.0.start) (clipped_offset s.text e.0.end) e.1 _ _ (clipped_offset_mono s.text e.0.start e.0.end e.0.ordered) (clipped_at s.text e.0.end).within refl h
-sound_step s (batch edits) single h = cc
+sound_step s (edit e) single h = sound_member s (clipped_offset s.text e.0.start) (clipped_offset s.text e.0.end) e.1 _ _ (clipped_offset_mono s.text e.0.start e.0.end e.0.ordered) (clipped_at s.text e.0.end).within refl
+    (well_formed_edit s.text e.0.start e.0.end e.1 h.whole single) h
+sound_step s (batch edits) single h = absurd single
 sound_step s undo single h = sound_undo s s.past h.past h
 sound_step s redo single h = sound_redo s s.future h.future h
 sound_step s (look range limit) single h = sound_counted s h
@@ -203,14 +209,14 @@ sound_step s (watch id) single h = sound_watch s (with_watcher id s.watchers) _ 
 sound_step s (unwatch id) single h = sound_unwatch s id (watcher_with id s.watchers) h
 
 -- the state in which a text is opened
-pub sound_opened : (t : List ℕ) → length t ≤ MAX_UNITS → IsSound (opened t)
-sound_opened t short = record { short = short; few_marks = omega arith; marks = All-nil (IsMarkOf t); past = record {}; future = record {} }
+pub sound_opened : (t : List ℕ) → length t ≤ MAX_UNITS → IsWellFormed t → IsSound (opened t)
+sound_opened t short whole = record { short = short; whole = whole; few_marks = omega arith; marks = All-nil (IsMarkOf t); past = record {}; future = record {} }
 
 -- ---- what a call answers, and the state after it
 
-pub sound_after : (s : State) (call : Call) (state : State) (reply : Reply) → is_single call ≡ true → (state, reply) ≡ answered s call → IsSound s → IsSound state
+pub sound_after : (s : State) (call : Call) (state : State) (reply : Reply) → IsSingle call → (state, reply) ≡ answered s call → IsSound s → IsSound state
 sound_after s call state reply single is h = let e : state ≡ (step s call).0 = ap (λ (p : State × Reply). p.0) is in rw e (sound_step s call single h)
 
-pub sound_done : (s : State) (call : Call) (state : State) (r : Result Reply NoMemory) → is_single call ≡ true → IfOk r (λ reply. (state, reply) ≡ answered s call) → OnErr r (state ≡ s) → IsSound s → IsSound state
+pub sound_done : (s : State) (call : Call) (state : State) (r : Result Reply NoMemory) → IsSingle call → IfOk r (λ reply. (state, reply) ≡ answered s call) → OnErr r (state ≡ s) → IsSound s → IsSound state
 sound_done s call state (Ok reply) single is err h = sound_after s call state reply single is h
 sound_done s call state (Err e) single is err h = rw err h

@@ -1,5 +1,5 @@
 -- A replacement between two offsets, as a splice of marks.
-use Rattle.std.proofs.Common.{◌≡◌, ℕ, ◌+◌, ◌-◌, ◌≤◌, List, length, true, sym, subst, ap, arith}
+use Rattle.std.proofs.Common.{◌≡◌, ℕ, ◌+◌, ◌-◌, ◌≤◌, List, length, true, sym, subst, ap, ◌∙◌, arith}
 use Rattle.std.specs.List.{All}
 use Rattle.points.specs.declared.point.Point.{Point}
 use Rattle.points.specs.declared.mark.Mark.{Mark}
@@ -14,6 +14,9 @@ use Rattle.points.proofs.ExtentParts.{point_at-replaced_before, point_at-replace
 use Rattle.points.proofs.MarkTextLemmas.{splice_within}
 use Rattle.points.proofs.OffsetLemmas.{point_at_le}
 use Rattle.points.proofs.TextLemmas.{length-replaced}
+use Rattle.chains.specs.declared.spot.Spot.{Spot}
+use Rattle.chains.specs.Spots.{spot_in}
+use Rattle.layers.specs.Building.{AreSpots}
 use Rattle.machine.specs.Machine.{splice_at}
 
 pub splice_is : (t : List ℕ) (i j : ℕ) (s : List ℕ) → i ≤ j → j ≤ length t → splice_at t i j s ≡ splice_in t i j s
@@ -33,3 +36,16 @@ ends_behind t i j s u order within is = subst (λ (p : Point). point_le p (point
 
     long : i + length s ≤ length u
     long = omega (arith, ap length is, length-replaced t i j s order within)
+
+-- ---- the places between which a text is replaced
+pub are_spots : (t : List ℕ) (i j : ℕ) (from to : Spot) → from ≡ spot_in t i → to ≡ spot_in t j → from.offset ≤ to.offset → to.offset ≤ length t → AreSpots t from to
+are_spots t i j from to start end order within =
+    let first : from.offset ≡ i = ap (λ (s : Spot). s.offset) start in
+    let last : to.offset ≡ j = ap (λ (s : Spot). s.offset) end in
+    record { from_is = start ∙ ap (spot_in t) (sym first); to_is = end ∙ ap (spot_in t) (sym last); order = order; within = within }
+
+pub start_is : (t : List ℕ) (from to : Spot) → AreSpots t from to → from.point ≡ point_at t from.offset
+start_is t from to at = ap (λ (s : Spot). s.point) at.from_is
+
+pub end_is : (t : List ℕ) (from to : Spot) → AreSpots t from to → to.point ≡ point_at t to.offset
+end_is t from to at = ap (λ (s : Spot). s.point) at.to_is

@@ -1,15 +1,15 @@
--- What is true of every state that calls lead to, so that a mark has its place in the text, and a step back or on has the
--- units that it replaces.
-use Rattle.std.specs.Prelude.{◌≡◌, ℕ, ◌+◌, ◌≤◌, List, [], ◌∷◌, length, Bool, true, false}
+-- What is true of every state that calls lead to, so that a mark has its place in the text, a step back or on has the units
+-- that it replaces, and no surrogate lacks its partner.
+use Rattle.std.specs.Prelude.{◌≡◌, ℕ, ◌+◌, ◌≤◌, List, [], ◌∷◌, length}
 use Rattle.std.specs.List.{All}
 use Rattle.points.specs.declared.point.Point.{Point}
-use Rattle.points.specs.Text.{replaced}
+use Rattle.points.specs.Text.{replaced, IsWellFormed}
 use Rattle.points.specs.Place.{point_at}
 use Rattle.points.specs.MarkText.{IsMarkOf}
 use Rattle.points.specs.declared.limits.TheConstants.{MAX_UNITS, MAX_MARKS}
-use Rattle.machine.specs.Machine.{Change, Step, State, between, Call, batch}
+use Rattle.machine.specs.Machine.{Change, Step, State, between, Call, edit, batch}
 
--- the units `old` stand in t at a point, and with `new` in their place t is u, which isn't too long
+-- the units `old` stand in t at a point, and with `new` in their place t is u, which is well-formed and isn't too long
 pub record Leads (start : Point) (old new t u : List ℕ) : Type 0 where
   pub offset : ℕ
   pub here : point_at t offset ≡ start
@@ -17,6 +17,7 @@ pub record Leads (start : Point) (old new t u : List ℕ) : Type 0 where
   pub stands : between t offset (offset + length old) ≡ old
   pub gives : u ≡ replaced t offset (offset + length old) new
   pub short : length u ≤ MAX_UNITS
+  pub whole : IsWellFormed u
 
 -- a step of one change leads from one text to another: forth where it is made again, back where it is taken back
 abbrev pub LeadsOn : Step → List ℕ → List ℕ → Type 0
@@ -34,15 +35,17 @@ abbrev pub LeadInTurn : (Step → List ℕ → List ℕ → Type 0) → List ℕ
 LeadInTurn R t [] = Unit {0}
 LeadInTurn R t (step ∷ steps) = (u : List ℕ) × R step t u × LeadInTurn R u steps
 
--- the marks are marks of the text, and each step leads back or on from it
+-- the text is well-formed, the marks are marks of it, and each step leads back or on from it
 pub record IsSound (s : State) : Type 0 where
   pub short : length s.text ≤ MAX_UNITS
+  pub whole : IsWellFormed s.text
   pub few_marks : length s.marks ≤ MAX_MARKS
   pub marks : All (IsMarkOf s.text) s.marks
   pub past : LeadInTurn LeadsBack s.text s.past
   pub future : LeadInTurn LeadsOn s.text s.future
 
--- the call isn't a batch: each of its steps is one change
-abbrev pub is_single : Call → Bool
-is_single (batch edits) = false
-is_single call = true
+-- the call isn't a batch, so each of its steps is one change, and what it puts in is well-formed
+abbrev pub IsSingle : Call → Type 0
+IsSingle (edit e) = IsWellFormed e.1
+IsSingle (batch edits) = ⊥
+IsSingle call = Unit {0}

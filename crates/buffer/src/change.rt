@@ -1,41 +1,40 @@
 //! The one place where the text changes.
-ghost use Rattle.std.specs.Prelude.{◌≡◌, ◌+◌, ◌-◌, ◌≤◌, ◌<◌, length, IfOk, OnOk, OnErr};
+ghost use Rattle.std.specs.Prelude.{◌≡◌, ◌+◌, ◌-◌, ◌≤◌, length, IfOk, OnOk, OnErr};
 ghost use Rattle.points.specs.Text.{replaced};
 ghost use Rattle.points.specs.Place.{point_at};
 ghost use Rattle.machine.specs.Machine.{splice_at};
 ghost use Rattle.machine.specs.Answers.{hit_numbers, edited_reply};
 ghost use Rattle.followers.specs.Following.{splice_by, change_of};
+ghost use Rattle.layers.specs.Building.{AreSpots};
 
 use crate::layered_text::LayeredText;
+use chains::Spot;
 use machine::{HitNumbers, Reply};
 use patch::Change;
 use points::{HitCounts, MAX_UNITS, NoMemory, Range, Splice, Units};
 
-/// Replaces the units from one offset up to another. The answer is the change, with its places in the text before it
+/// Replaces the units between two places of the text. The answer is the change, with its places in the text before it
 /// and after it.
 pub(crate) fn change(
     text: &mut LayeredText,
-    from: usize,
-    to: usize,
+    from: Spot,
+    to: Spot,
     old_text: Units,
     new_text: Units,
 ) -> Result<Change, NoMemory>
-    requires order { from ≤ to }
-    requires within { to ≤ length text.old }
-    requires fits { length text.old + length new_text ≤ MAX_UNITS + (to - from) }
-    ensures ok { OnOk result (text.new ≡ replaced text.old from to new_text) }
+    requires places { AreSpots text.old from to }
+    requires fits { length text.old + length new_text ≤ MAX_UNITS + (to.offset - from.offset) }
+    ensures ok { OnOk result (text.new ≡ replaced text.old from.offset to.offset new_text) }
     ensures err { OnErr result (text.new ≡ text.old) }
-    ensures splice { IfOk result (λ c. splice_by c ≡ splice_at text.old from to new_text) }
+    ensures splice { IfOk result (λ c. splice_by c ≡ splice_at text.old from.offset to.offset new_text) }
     ensures start { IfOk result (λ c. c.new_range.start ≡ c.old_range.start) }
-    ensures texts { IfOk result (λ c. change_of c ≡ record { start = point_at text.old from; old = old_text; new = new_text }) }
+    ensures texts { IfOk result (λ c. change_of c ≡ record { start = point_at text.old from.offset; old = old_text; new = new_text }) }
 {
-    let start = text.point_at(from);
-    let old_end = text.point_at(to);
     text.put(from, to, &new_text)?;
-    let new_end = text.point_at(from + new_text.len());
+    let new_end = text.point_at(from.offset as usize + new_text.len());
     Ok(Change {
-        old_range: Range::new(start, old_end),
-        new_range: Range::new(start, new_end),
+        old_range: Range::new(from.point, to.point),
+        new_range: Range::new(from.point, new_end),
         old_text,
         new_text,
     })

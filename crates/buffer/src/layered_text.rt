@@ -1,13 +1,16 @@
 //! The buffer's text. It stands in layers, so that an edit costs what it changes and not what the text has.
-ghost use Rattle.std.specs.Prelude.{◌≡◌, ◌+◌, ◌-◌, ◌<◌, ◌≤◌, length, slice_range, string_bytes, Some, IfOk, OnOk, OnErr};
+ghost use Rattle.std.specs.Prelude.{◌≡◌, ◌+◌, ◌-◌, ◌<◌, ◌≤◌, length, slice_range, string_bytes, unwrap_or, IfOk, OnOk, OnErr};
 ghost use Rattle.points.specs.Text.{replaced, text_of};
 ghost use Rattle.points.specs.Place.{point_at, clip, offset_of, clipped_offset};
 ghost use Rattle.points.specs.MarkText.{IsPointOf};
 ghost use Rattle.points.specs.declared.limits.TheConstants.{MAX_UNITS};
 ghost use Rattle.places.specs.Placed.{free_of, top_id};
+ghost use Rattle.chains.specs.Spots.{spot_in};
 ghost use Rattle.chains.specs.Layered.{whole_text};
 ghost use Rattle.layers.specs.Shelf.{top_layers, top_text};
+ghost use Rattle.layers.specs.Building.{AreSpots};
 
+use chains::Spot;
 use layers::{NewLayer, Reader, Shelf, places_are_sound};
 use line_text::{LineText, TextRefusal};
 use points::{MAX_UNITS, NoMemory, Point, Range, Units};
@@ -59,12 +62,21 @@ impl LayeredText {
         self.shelf.look().point_at(offset)
     }
 
-    /// The offset of a point that the text has.
-    pub fn offset_of(&self, point: Point) -> usize
-        requires { IsPointOf self.now point }
-        ensures { offset_of self.now point ≡ Some result }
+    /// The place at an offset.
+    pub fn spot_at(&self, offset: usize) -> Spot
+        requires { offset ≤ length self.now }
+        ensures { result ≡ spot_in self.now offset }
     {
-        self.shelf.look().spot_of(point).offset as usize
+        self.shelf.look().spot_at(offset)
+    }
+
+    /// The place of a point that the text has.
+    pub fn spot_of(&self, point: Point) -> Spot
+        requires { IsPointOf self.now point }
+        ensures value { result ≡ spot_in self.now (unwrap_or (offset_of self.now point) 0) }
+        ensures within { result.offset ≤ length self.now }
+    {
+        self.shelf.look().spot_of(point)
     }
 
     /// The point that a point is clipped to: outside line endings and surrogate pairs, and not past the end.
@@ -74,15 +86,14 @@ impl LayeredText {
         self.shelf.look().clip(point)
     }
 
-    /// The offsets of the clipped ends of a range.
-    pub fn span(&self, range: Range) -> (usize, usize)
-        ensures from { result.0 ≡ clipped_offset self.now range.start }
-        ensures to { result.1 ≡ clipped_offset self.now range.end }
-        ensures order { result.0 ≤ result.1 }
-        ensures within { result.1 ≤ length self.now }
+    /// The places of the clipped ends of a range.
+    pub fn spots(&self, range: Range) -> (Spot, Spot)
+        ensures from { result.0 ≡ spot_in self.now (clipped_offset self.now range.start) }
+        ensures to { result.1 ≡ spot_in self.now (clipped_offset self.now range.end) }
+        ensures order { result.0.offset ≤ result.1.offset }
+        ensures within { result.1.offset ≤ length self.now }
     {
-        let (from, to) = self.shelf.look().span(range);
-        (from.offset as usize, to.offset as usize)
+        self.shelf.look().span(range)
     }
 
     /// The units from one offset up to another, copied.
@@ -103,15 +114,14 @@ impl LayeredText {
         self.shelf.look().to_text(self.alloc)
     }
 
-    /// Replaces the units from one offset up to another.
-    pub fn put(&mut self, from: usize, to: usize, new: &Units) -> Result<(), NoMemory>
-        requires order { from ≤ to }
-        requires within { to ≤ length self.old }
-        requires fits { length self.old + length new.now ≤ MAX_UNITS + (to - from) }
-        ensures ok { OnOk result (self.new ≡ replaced self.old from to new.now) }
+    /// Replaces the units between two places of the text.
+    pub fn put(&mut self, start: Spot, end: Spot, new: &Units) -> Result<(), NoMemory>
+        requires places { AreSpots self.old start end }
+        requires fits { length self.old + length new.now ≤ MAX_UNITS + (end.offset - start.offset) }
+        ensures ok { OnOk result (self.new ≡ replaced self.old start.offset end.offset new.now) }
         ensures err { OnErr result (self.new ≡ self.old) }
     {
-        let layer = changed(&self.shelf, from, to, new)?;
+        let layer = changed(&self.shelf, start, end, new)?;
         put_on_top(&mut self.shelf, layer);
         Ok(())
     }
@@ -152,15 +162,12 @@ impl LayeredText {
 }
 
 // The layer that a replacement gives. Nobody asks for the version of a layer yet, so each has 0.
-fn changed(shelf: &Shelf, from: usize, to: usize, new: &Units) -> Result<NewLayer, NoMemory>
-    requires order { from ≤ to }
-    requires within { to ≤ length (top_text shelf.now) }
-    requires fits { length (top_text shelf.now) + length new.now ≤ MAX_UNITS + (to - from) }
+fn changed(shelf: &Shelf, start: Spot, end: Spot, new: &Units) -> Result<NewLayer, NoMemory>
+    requires places { AreSpots (top_text shelf.now) start end }
+    requires fits { length (top_text shelf.now) + length new.now ≤ MAX_UNITS + (end.offset - start.offset) }
     ensures on { IfOk result (λ layer. layer.on ≡ top_id shelf.now) }
-    ensures text { IfOk result (λ layer. whole_text layer.layers ≡ replaced (top_text shelf.now) from to new.now) }
+    ensures text { IfOk result (λ layer. whole_text layer.layers ≡ replaced (top_text shelf.now) start.offset end.offset new.now) }
 {
-    let start = shelf.look().spot_at(from);
-    let end = shelf.look().spot_at(to);
     let put = text_of(new)?;
     match shelf.build_between(0, start, end, &put) {
         Ok(layer) => Ok(layer),

@@ -63,6 +63,13 @@ impl Snapshot {
         self.version
     }
 
+    /// A reader of the text.
+    pub fn reader(&self) -> &Reader
+        ensures { result.now.text ≡ self.now.text }
+    {
+        &self.reader
+    }
+
     /// Answers a read that wants nothing but the text.
     pub fn read(&self, alloc: Global, read: &Read) -> Result<ReadAnswer, NoMemory>
         requires { is_own_read read.now ≡ true }

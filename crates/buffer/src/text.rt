@@ -1,17 +1,18 @@
 //! Edits and looks.
 ghost use Rattle.std.specs.Prelude.{◌≡◌, ◌+◌, ◌-◌, ◌<◌, ◌≤◌, ◌^◌, ◌==◌, ◌&&◌, ◌∷◌, [], length, min, nat_lt, IfOk, OnOk, OnErr};
 ghost use Rattle.points.specs.Text.{utf16_of};
-ghost use Rattle.points.specs.Place.{point_at};
 ghost use Rattle.machine.specs.Machine.{edit, look, shown, counted, with_step, changed, change_of, part_of, no_hits};
 ghost use Rattle.machine.specs.Answers.{edited_reply};
+ghost use Rattle.layers.specs.Building.{AreSpots};
 ghost use Rattle.buffer.specs.Seen.{Hears, answered, state_of};
 ghost use Rattle.buffer.specs.Sound.{IsSound};
 
 use crate::buffer::Buffer;
 use crate::change::{change, edited_reply, splice_by};
+use chains::Spot;
 use line_text::splits_pair;
 use machine::{CallRefusal, Reply, Text};
-use points::{HitCounts, LAST, MAX_UNITS, NoMemory, Range, Splice, Units};
+use points::{HitCounts, LAST, MAX_UNITS, NoMemory, Point, Range, Splice, Units};
 use std::alloc::Global;
 use watch::{Listens, Seat};
 
@@ -27,15 +28,16 @@ impl Buffer {
         ensures told { self.new.followers.watchers.told ≤ self.new.count }
         ensures stands { Hears (λ s. ⟦<Seat as Listens>⟧.kept s) self.new }
     {
-        let (from, to) = self.text.span(range);
+        let (from, to) = self.text.spots(range);
         let new_text = Units::from_str(alloc, text)?;
-        if is_nothing(from, to, new_text.len()) {
-            return Ok(self.unchanged(from));
+        if is_nothing(from.offset, to.offset, new_text.len()) {
+            return Ok(self.unchanged(from.point));
         }
-        if is_too_long(self.text.len() - (to - from), new_text.len()) {
+        let kept = self.text.len() - (to.offset - from.offset) as usize;
+        if is_too_long(kept, new_text.len()) {
             return Ok(self.refused(CallRefusal::TooLong));
         }
-        self.make(alloc, from, to, new_text)
+        self.make(from, to, new_text)
     }
 
     /// Shows the first `limit` units of the clipped range, one fewer where that would part a surrogate pair.
@@ -46,9 +48,9 @@ impl Buffer {
         ensures followers { self.new.followers ≡ self.old.followers }
         ensures count { self.old.count ≤ self.new.count }
     {
-        let (from, to) = self.text.span(range);
-        let end = read_end(from, to, limit as usize);
-        let units = self.text.units(from, end)?;
+        let (start, end) = self.text.spots(range);
+        let (from, to) = (start.offset as usize, end.offset as usize);
+        let units = self.text.units(from, read_end(from, to, limit as usize))?;
         let text = String::from_utf16_lossy(alloc, shown(units.as_slice(), limit as usize))?;
         Ok(Reply::Text {
             at: self.numbered(),
@@ -57,15 +59,12 @@ impl Buffer {
         })
     }
 
-    // An edit at an offset that changes nothing.
-    fn unchanged(&mut self, offset: usize) -> Reply
-        requires count { self.old.count < LAST }
-        requires within { offset ≤ length self.old.text }
-        ensures reply { let p = point_at self.old.text offset in
-            result ≡ edited_reply (self.old.count + 1) (record { from = p; to = p; end = p; hits = no_hits }) }
+    // An edit at a point that changes nothing.
+    fn unchanged(&mut self, point: Point) -> Reply
+        requires { self.old.count < LAST }
+        ensures reply { result ≡ edited_reply (self.old.count + 1) (record { from = point; to = point; end = point; hits = no_hits }) }
         ensures new { self.new ≡ record self.old { count = self.old.count + 1 } }
     {
-        let point = self.text.point_at(offset);
         let place = Splice {
             start: point,
             old_end: point,
@@ -74,29 +73,22 @@ impl Buffer {
         edited_reply(self.numbered(), place, HitCounts::default())
     }
 
-    // An edit from one offset to another that makes a change.
-    fn make(
-        &mut self,
-        alloc: Global,
-        from: usize,
-        to: usize,
-        new_text: Units,
-    ) -> Result<Reply, NoMemory>
+    // An edit between two places that makes a change.
+    fn make(&mut self, from: Spot, to: Spot, new_text: Units) -> Result<Reply, NoMemory>
         requires count { self.old.count < LAST }
-        requires order { from ≤ to }
-        requires within { to ≤ length self.old.text }
-        requires fits { length self.old.text + length new_text ≤ MAX_UNITS + (to - from) }
+        requires places { AreSpots self.old.text from to }
+        requires fits { length self.old.text + length new_text ≤ MAX_UNITS + (to.offset - from.offset) }
         requires sound { IsSound (state_of self.old) }
         requires told { self.old.followers.watchers.told ≤ self.old.count }
         requires stands { Hears (λ s. ⟦<Seat as Listens>⟧.kept s) self.old }
-        ensures state { OnOk result (state_of self.new ≡ counted (with_step (change_of (state_of self.old) from to new_text ∷ [])
-            (changed (state_of self.old) from to new_text))) }
-        ensures reply { IfOk result (λ reply. reply ≡ edited_reply (self.old.count + 1) (part_of (state_of self.old) from to new_text)) }
+        ensures state { OnOk result (state_of self.new ≡ counted (with_step (change_of (state_of self.old) from.offset to.offset new_text ∷ [])
+            (changed (state_of self.old) from.offset to.offset new_text))) }
+        ensures reply { IfOk result (λ reply. reply ≡ edited_reply (self.old.count + 1) (part_of (state_of self.old) from.offset to.offset new_text)) }
         ensures err { OnErr result (state_of self.new ≡ state_of self.old) }
         ensures told { self.new.followers.watchers.told ≤ self.new.count }
         ensures stands { Hears (λ s. ⟦<Seat as Listens>⟧.kept s) self.new }
     {
-        let old_text = self.text.units(from, to)?;
+        let old_text = self.text.units(from.offset as usize, to.offset as usize)?;
         let change = change(&mut self.text, from, to, old_text, new_text)?;
         let place = splice_by(&change);
         let hits = self.followers.edited(change);
@@ -106,7 +98,7 @@ impl Buffer {
 }
 
 // Whether an edit from one offset to another by so many units changes nothing.
-fn is_nothing(from: usize, to: usize, len: usize) -> bool
+fn is_nothing(from: u32, to: u32, len: usize) -> bool
     ensures { result ≡ ((from == to) && (len == 0)) }
 {
     from == to && len == 0

@@ -72,7 +72,7 @@ fn put_in(text: &mut LayeredText, step: Replacement) -> Result<Change, NoMemory>
         splice_by c ≡ splice_at text.old i (i + length step.old_text) step.new_text) }
     ensures start { IfOk result (λ c. c.new_range.start ≡ c.old_range.start) }
 {
-    let from = text.offset_of(step.start);
-    let to = from + step.old_text.len();
+    let from = text.spot_of(step.start);
+    let to = text.spot_at(from.offset as usize + step.old_text.len());
     change(text, from, to, step.old_text, step.new_text)
 }

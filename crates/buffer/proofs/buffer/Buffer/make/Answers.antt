@@ -1,22 +1,22 @@
-use Rattle.std.proofs.Common.{◌≡◌, ℕ, ◌+◌, ◌-◌, List, [], ◌∷◌, ◌++◌, length, take, drop, map, refl, sym, subst, ap, ◌∙◌, arith}
+use Rattle.std.proofs.Common.{◌≡◌, ℕ, List, [], ◌∷◌, take, map, refl, ap, ◌∙◌}
 use Rattle.points.specs.declared.mark.Splice.{Splice}
 use Rattle.points.specs.Place.{point_at}
 use Rattle.points.specs.MarkList.{all_moved}
-use Rattle.machine.specs.Machine.{State, Change, Step, Watching, between, counted, with_step, change_of, changed, heard_more}
+use Rattle.machine.specs.Machine.{State, Change, between, counted, with_step, change_of, changed, heard_more}
 use Rattle.buffer.specs.Seen.{state_of}
 use Rattle.buffer.proofs.TextLemmas.{marks_may_move}
 use Rattle.buffer.proofs.EditLemmas.{same_state}
 use Rattle.buffer.proofs.buffer.Buffer.make.Goals as goal
 
 pub edited-hits-requires-clause-within : goal.edited-hits-requires-clause-within
-edited-hits-requires-clause-within g c = marks_may_move c.args.self.now.text c.args.from c.args.to c.args.new_text c.args.self.now.followers.marks _ c.requires.order c.requires.within c.requires.sound.short c.requires.fits c.requires.sound.marks
+edited-hits-requires-clause-within g c = marks_may_move c.args.self.now.text c.args.from.offset c.args.to.offset c.args.new_text c.args.self.now.followers.marks _ c.requires.places.order c.requires.places.within c.requires.sound.short c.requires.fits c.requires.sound.marks
     c.in_ok-change.ensures.splice
 
 pub returns-clause-state : goal.returns-clause-state
 returns-clause-state g c =
     let s : State = state_of c.args.self.now in
-    let i : ℕ = c.args.from in
-    let j : ℕ = c.args.to in
+    let i : ℕ = c.args.from.offset in
+    let j : ℕ = c.args.to.offset in
     let old : c.in_ok-old_text.old_text ≡ between s.text i j = c.in_ok-old_text.ensures in
     let made : Change = change_of s i j c.args.new_text in
     let texts = c.in_ok-change.ensures.texts ∙ ap (λ (u : List ℕ). record { start = point_at s.text i; old = u; new = c.args.new_text }) old in
