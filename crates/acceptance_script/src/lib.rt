@@ -9,6 +9,8 @@ mod plain_replay_tests;
 #[cfg(test)]
 mod script_tests;
 #[cfg(test)]
+mod script_writer_tests;
+#[cfg(test)]
 mod transcript_check_tests;
 #[cfg(test)]
 mod transcripts_tests;

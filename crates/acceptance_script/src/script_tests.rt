@@ -287,16 +287,38 @@ read|{\"do\":\"take\",\"snapshot\":7},{\"do\":\"read\",\"snapshot\":7,\"reads\":
 1 2 UnknownSnapshot|{\"do\":\"take\",\"snapshot\":7},{\"do\":\"read\",\"snapshot\":7.0,\"reads\":[]}\n\
 1 2 UnknownSnapshot|{\"do\":\"take\",\"snapshot\":7},{\"do\":\"read\",\"snapshot\":8,\"reads\":[{\"get\":\"text\",\"range\":[0,0,0,0],\"limit\":65537}]}\n\
 1 2 BadShape|{\"do\":\"take\",\"snapshot\":7},{\"do\":\"read\",\"snapshot\":8,\"reads\":[{\"get\":\"text\",\"range\":[0,0,0,0],\"limit\":65537},null]}\n\
-1 2 BadShape|{\"do\":\"take\",\"snapshot\":7},{\"do\":\"read\",\"snapshot\":7,\"reads\":[{\"get\":\"find\",\"needle\":\"a\",\"limit\":1}]}\n\
-1 2 BadShape|{\"do\":\"take\",\"snapshot\":7},{\"do\":\"read\",\"snapshot\":7,\"reads\":[{\"get\":\"size\"},{\"get\":\"pattern\",\"pattern\":\"a\",\"limit\":1}]}\n\
 1 2 BadShape|{\"do\":\"take\",\"snapshot\":7},{\"do\":\"read\",\"snapshot\":7,\"reads\":[{\"get\":\"save\",\"name\":\"a\",\"encoding\":\"utf8\"}]}\n\
-1 2 BadShape|{\"do\":\"take\",\"snapshot\":7},{\"do\":\"read\",\"snapshot\":7,\"reads\":[{\"get\":\"pattern\",\"needle\":\"a\",\"limit\":0}]}\n\
 1 2 BadNumber|{\"do\":\"take\",\"snapshot\":7},{\"do\":\"read\",\"snapshot\":7,\"reads\":[{\"get\":\"text\",\"range\":[0,0,0,0],\"limit\":65537}]}\n\
 1 2 BadShape|{\"do\":\"take\",\"snapshot\":7},{\"do\":\"read\",\"snapshot\":7,\"reads\":{}}";
 
 #[test]
 fn places_faults_of_snapshots(rt: HostRuntime) {
     for row in SNAPSHOTS.split('\n') {
+        assert!(rt; commands_hold(rt.alloc(), row), "{row}");
+    }
+}
+
+// Searches with the least and the greatest limit, and for an empty pattern; an empty needle; limits out of their bounds
+// and broken, before the needle; a number that isn't live before these; members that are missing, more or others.
+const SEARCHES: &str = "\
+read|{\"do\":\"take\",\"snapshot\":7},{\"do\":\"read\",\"snapshot\":7,\"reads\":[{\"get\":\"find\",\"needle\":\"a\",\"limit\":0},{\"get\":\"pattern\",\"pattern\":\"\",\"limit\":1000}]}\n\
+1 2 EmptyNeedle|{\"do\":\"take\",\"snapshot\":7},{\"do\":\"read\",\"snapshot\":7,\"reads\":[{\"get\":\"find\",\"needle\":\"\",\"limit\":1}]}\n\
+1 2 EmptyNeedle|{\"do\":\"take\",\"snapshot\":7},{\"do\":\"read\",\"snapshot\":7,\"reads\":[{\"get\":\"size\"},{\"get\":\"find\",\"needle\":\"a\",\"limit\":1},{\"get\":\"find\",\"needle\":\"\",\"limit\":1000}]}\n\
+1 2 BadNumber|{\"do\":\"take\",\"snapshot\":7},{\"do\":\"read\",\"snapshot\":7,\"reads\":[{\"get\":\"find\",\"needle\":\"\",\"limit\":1001}]}\n\
+1 2 BadNumber|{\"do\":\"take\",\"snapshot\":7},{\"do\":\"read\",\"snapshot\":7,\"reads\":[{\"get\":\"find\",\"needle\":\"\",\"limit\":1},{\"get\":\"pattern\",\"pattern\":\"a\",\"limit\":-1}]}\n\
+1 2 BadNumber|{\"do\":\"take\",\"snapshot\":7},{\"do\":\"read\",\"snapshot\":7,\"reads\":[{\"get\":\"pattern\",\"pattern\":\"a\",\"limit\":1.0}]}\n\
+1 2 UnknownSnapshot|{\"do\":\"take\",\"snapshot\":7},{\"do\":\"read\",\"snapshot\":8,\"reads\":[{\"get\":\"find\",\"needle\":\"\",\"limit\":1001}]}\n\
+1 2 BadShape|{\"do\":\"take\",\"snapshot\":7},{\"do\":\"read\",\"snapshot\":8,\"reads\":[{\"get\":\"find\",\"needle\":\"\",\"limit\":1001},null]}\n\
+1 2 BadShape|{\"do\":\"take\",\"snapshot\":7},{\"do\":\"read\",\"snapshot\":7,\"reads\":[{\"get\":\"find\",\"needle\":0,\"limit\":1}]}\n\
+1 2 BadShape|{\"do\":\"take\",\"snapshot\":7},{\"do\":\"read\",\"snapshot\":7,\"reads\":[{\"get\":\"find\",\"needle\":\"a\",\"limit\":\"1\"}]}\n\
+1 2 BadShape|{\"do\":\"take\",\"snapshot\":7},{\"do\":\"read\",\"snapshot\":7,\"reads\":[{\"get\":\"find\",\"needle\":\"a\"}]}\n\
+1 2 BadShape|{\"do\":\"take\",\"snapshot\":7},{\"do\":\"read\",\"snapshot\":7,\"reads\":[{\"get\":\"find\",\"needle\":\"a\",\"limit\":1,\"range\":[0,0,0,0]}]}\n\
+1 2 BadShape|{\"do\":\"take\",\"snapshot\":7},{\"do\":\"read\",\"snapshot\":7,\"reads\":[{\"get\":\"pattern\",\"pattern\":null,\"limit\":1}]}\n\
+1 2 BadShape|{\"do\":\"take\",\"snapshot\":7},{\"do\":\"read\",\"snapshot\":7,\"reads\":[{\"get\":\"pattern\",\"needle\":\"a\",\"limit\":0}]}";
+
+#[test]
+fn places_faults_of_searches(rt: HostRuntime) {
+    for row in SEARCHES.split('\n') {
         assert!(rt; commands_hold(rt.alloc(), row), "{row}");
     }
 }
@@ -535,9 +557,9 @@ fn reads_each_field_of_a_script(rt: HostRuntime) {
     assert!(rt; reads_hello(rt.alloc()));
 }
 
-// A find of marks, a watch, and a snapshot that is taken, read in each way and ended.
+// A find of marks, a watch, and a snapshot that is taken, read in each way and searched, and ended.
 const EACH: &[u8] =
-    b"{\"version\":1,\"open\":{\"text\":\"\"},\"sessions\":[[{\"do\":\"marks\",\"how\":\"contained_in\",\"range\":[1,2,3,4]},{\"do\":\"watch\",\"id\":5},{\"do\":\"unwatch\",\"id\":6},{\"do\":\"take\",\"snapshot\":7},{\"do\":\"read\",\"snapshot\":7,\"reads\":[{\"get\":\"size\"},{\"get\":\"text\",\"range\":[1,2,3,4],\"limit\":8}]},{\"do\":\"release\",\"snapshot\":7}]]}";
+    b"{\"version\":1,\"open\":{\"text\":\"\"},\"sessions\":[[{\"do\":\"marks\",\"how\":\"contained_in\",\"range\":[1,2,3,4]},{\"do\":\"watch\",\"id\":5},{\"do\":\"unwatch\",\"id\":6},{\"do\":\"take\",\"snapshot\":7},{\"do\":\"read\",\"snapshot\":7,\"reads\":[{\"get\":\"size\"},{\"get\":\"text\",\"range\":[1,2,3,4],\"limit\":8},{\"get\":\"find\",\"needle\":\"ab\",\"limit\":9},{\"get\":\"pattern\",\"pattern\":\"a+\",\"limit\":10}]},{\"do\":\"release\",\"snapshot\":7}]]}";
 
 fn is_marks(command: &Command) -> bool {
     match command {
@@ -573,6 +595,8 @@ fn is_read(read: &Read, expected: &str, wanted: u32) -> bool {
             && range.start == point(1, 2)
             && range.end == point(3, 4)
             && *limit == wanted,
+        Read::Find { needle, limit } => needle.as_str() == expected && *limit == wanted,
+        Read::Pattern { pattern, limit } => pattern.as_str() == expected && *limit == wanted,
         _ => false,
     }
 }
@@ -581,7 +605,11 @@ fn are_reads(command: &Command) -> bool {
     match command {
         Command::Read { reads, .. } => {
             let reads = reads.as_slice();
-            reads.len() == 2 && is_read(&reads[0], "size", 0) && is_read(&reads[1], "text", 8)
+            reads.len() == 4
+                && is_read(&reads[0], "size", 0)
+                && is_read(&reads[1], "text", 8)
+                && is_read(&reads[2], "ab", 9)
+                && is_read(&reads[3], "a+", 10)
         }
         _ => false,
     }

@@ -16,6 +16,7 @@ pub mod CommandLoop
 pub mod Documents
 pub mod Apart
 pub mod WrittenLemmas
+pub mod ListLemmas
 pub mod Whole
 pub mod TextsApart
 pub mod ReadBack

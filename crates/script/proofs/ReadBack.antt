@@ -1,4 +1,4 @@
--- The text of a transcript reads back as the transcript's value.
+-- The text of a document reads back as its value.
 use Rattle.std.proofs.Common.{◌≡◌, ◌≤◌, ℕ, suc, max, List, [], ◌∷◌, ◌++◌, map, Bool, true, false, cond, ◌&&◌, Some, option_and_then, IsUtf8, refl, sym, ap, ap₂, ◌∙◌, arith, append_assoc, append-nil, subst}
 use Rattle.std.proofs.lemmas.Str.{IsUtf8-append}
 use Rattle.json.specs.Token.{Token, begin_object, end_object, begin_array, end_array, key, bad}
@@ -30,7 +30,7 @@ use Rattle.serde_json.specs.Written.{outline, items_outline, members_outline}
 
 -- ---- how deep the value of a transcript is
 
-list-depth : {A : Type 0} (value : A → Data) (n : ℕ) → ((x : A) → depth (value x) ≤ n) → (xs : List A) → items_depth (items_of (map value xs)) ≤ n
+pub list-depth : {A : Type 0} (value : A → Data) (n : ℕ) → ((x : A) → depth (value x) ≤ n) → (xs : List A) → items_depth (items_of (map value xs)) ≤ n
 list-depth value n each [] = omega arith
 list-depth value n each (x ∷ xs) = omega (arith, each x, list-depth value n each xs)
 
@@ -49,8 +49,8 @@ reply-depth r = omega arith
 replies-depth : (rs : List Reply) → depth (replies_value rs) ≤ 6
 replies-depth rs = omega (arith, list-depth reply_value 5 reply-depth rs)
 
-transcript_value-depth : (t : Transcript) → depth (transcript_value t) ≤ max_depth
-transcript_value-depth t = omega (arith, list-depth replies_value 6 replies-depth t.sessions)
+pub transcript_value_depth : (t : Transcript) → depth (transcript_value t) ≤ max_depth
+transcript_value_depth t = omega (arith, list-depth replies_value 6 replies-depth t.sessions)
 
 -- ---- a printed text has the same lexemes with white space behind it
 
@@ -153,15 +153,14 @@ mutual
 line_feed_is_utf8 : IsUtf8 (10 ∷ [])
 line_feed_is_utf8 = IsUtf8-are_ascii (10 ∷ []) refl
 
--- the tokens of a transcript's value, printed with a line feed behind them, are a document with that value
-pub transcript_reads_back : (t : Transcript) (start end : writer.Written) (bytes all : List ℕ) → start.before ≡ [] → start.tokens ≡ [] → WritesValue start end (transcript_value t)
-    → bytes ≡ end.before ++ print end.tokens → tokens (print end.tokens) ≡ end.tokens → IsUtf8 (print end.tokens) → all ≡ bytes ++ 10 ∷ [] → document all ≡ Some (transcript_value t)
-transcript_reads_back t start end bytes all before none w is same utf8 last =
-    let d = transcript_value t in
+-- the tokens of a value that is no deeper than what is read, printed with a line feed behind them, are a document with that value
+pub value_reads_back : (d : Data) (start end : writer.Written) (bytes all : List ℕ) → depth d ≤ max_depth → start.before ≡ [] → start.tokens ≡ [] → WritesValue start end d
+    → bytes ≡ end.before ++ print end.tokens → tokens (print end.tokens) ≡ end.tokens → IsUtf8 (print end.tokens) → all ≡ bytes ++ 10 ∷ [] → document all ≡ Some d
+value_reads_back d start end bytes all deep before none w is same utf8 last =
     let text = print end.tokens in
     let printed : bytes ≡ text = is ∙ ap (λ b. b ++ text) (w.adds.before ∙ before) in
     let there : tokens text ≡ tokens_of d = same ∙ w.adds.tokens ∙ ap (λ ts. ts ++ tokens_of d) none in
     let fed = tokens-line_feed text (outline d) (ap print (sym same)) there ∙ there in
-    let parsed = ap (json.value max_depth) (fed ∙ sym (append-nil (tokens_of d))) ∙ value-json_tokens (outline d) max_depth [] (omega (arith, outline-depth d, transcript_value-depth t)) in
+    let parsed = ap (json.value max_depth) (fed ∙ sym (append-nil (tokens_of d))) ∙ value-json_tokens (outline d) max_depth [] (omega (arith, outline-depth d, deep)) in
     let back : read (text ++ 10 ∷ []) ≡ Some d = ap (λ r. option_and_then of_json (option_and_then (λ p. json.if_last p.0 p.1) r)) parsed ∙ w.readable in
     ap document (last ∙ ap (λ b. b ++ 10 ∷ []) printed) ∙ document_is (text ++ 10 ∷ []) (Some d) (IsUtf8-append text (10 ∷ []) utf8 line_feed_is_utf8) back

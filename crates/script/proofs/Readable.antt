@@ -24,6 +24,8 @@ all_hold P test each (x ∷ xs) h = and_from (test x) (list_all test xs) (each x
 read_built : (r : Read) → IsReadableRead r → has_built_read r ≡ true
 read_built read.Size h = refl
 read_built (read.Text range limit) h = refl
+read_built (read.Find needle limit) h = refl
+read_built (read.Pattern pattern limit) h = refl
 read_built r h = absurd h
 
 pub command_built : (c : Command) → IsReadable c → has_built_word c ≡ true

@@ -7,7 +7,7 @@ use Rattle.std.specs.Option.{option_or}
 use Rattle.std.proofs.lemmas.Bool.Decides.{nat_tests}
 use Rattle.std.proofs.lemmas.List.Sums.{sum_by-cons}
 use Rattle.std.proofs.lemmas.Option.{none-some}
-use Rattle.std.proofs.lemmas.Bool.{ltb-false, le-leb, eqb-true, and_parts, and_from, not-false, false≢true}
+use Rattle.std.proofs.lemmas.Bool.{ltb-false, le-leb, eqb-true, and_parts, and_from, not-false, false≢true, ne_eqb}
 use Rattle.points.specs.declared.limits.TheConstants.{MAX_UNITS, MAX_HANDS}
 use Rattle.points.specs.declared.range.Range.{Range}
 use Rattle.points.specs.Text.{utf16_of}
@@ -116,6 +116,8 @@ place_more d h =
 read_is_built : (r : Read) → has_built_read r ≡ true → is_unbuilt_read (read_value r) ≡ false
 read_is_built read.Size h = refl
 read_is_built (read.Text range limit) h = refl
+read_is_built (read.Find needle limit) h = refl
+read_is_built (read.Pattern pattern limit) h = refl
 read_is_built r h = absurd (false≢true h)
 
 reads_are_built : (rs : List Read) → list_all has_built_read rs ≡ true → any_item is_unbuilt_read (items_of (map read_value rs)) ≡ false
@@ -205,6 +207,8 @@ range_first r rest e = let parts = or_false (not (is_some (range_of (range_value
 read_readable : (r : Read) → has_built_read r ≡ true → read_breaks wrong_number false (read_value r) ≡ false → IsReadableRead r
 read_readable read.Size built e = tt
 read_readable (read.Text range limit) built e = let first = range_first range _ e in (first.0, (whole_first MAX_SHOWN limit false first.1).0)
+read_readable (read.Find needle limit) built e = (whole_first MAX_HITS limit false e).0
+read_readable (read.Pattern pattern limit) built e = (whole_first MAX_HITS limit false e).0
 read_readable r built e = absurd (false≢true built)
 
 reads_readable : (rs : List Read) → list_all has_built_read rs ≡ true → any_item (read_breaks wrong_number false) (items_of (map read_value rs)) ≡ false → AllByRecursion IsReadableRead rs
@@ -236,7 +240,8 @@ readable (command.Release k) built e = (whole_first MAX_ID k false e).0
 readable c built e = absurd (false≢true built)
 
 needle_there : (r : Read) → has_built_read r ≡ true → read_breaks empty_needle false (read_value r) ≡ false → has_needle r ≡ true
-needle_there (read.Find needle limit) built e = absurd (false≢true built)
+needle_there (read.Find [] limit) built e = absurd (false≢true (sym e))
+needle_there (read.Find (b ∷ bytes) limit) built e = let some_units : (length (b ∷ bytes) == 0) ≡ false = ne_eqb (length (b ∷ bytes)) 0 (λ h. omega (arith, h)) in rw some_units refl
 needle_there r built e = refl
 
 needles_there : (rs : List Read) → list_all has_built_read rs ≡ true → any_item (read_breaks empty_needle false) (items_of (map read_value rs)) ≡ false → list_all has_needle rs ≡ true

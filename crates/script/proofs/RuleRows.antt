@@ -154,9 +154,9 @@ save_is_unbuilt : built_broken (reading 8 (item (save (codes "a") (codes "utf8")
 unfolding built_broken range_of
 save_is_unbuilt = refl
 
-find_is_unbuilt : built_broken (reading 7 (item (find (codes "b") 1000) no_items)) ≡ Some BadShape
+find_is_built : built_broken (reading 7 (item (find (codes "b") 1000) no_items)) ≡ None
 unfolding built_broken range_of
-find_is_unbuilt = refl
+find_is_built = refl
 
 -- a number that was ended may be taken again, and one that is live may not
 taken_after_release : are_in_turn [] (command.Take 1 ∷ command.Release 1 ∷ command.Take 1 ∷ []) ≡ true

@@ -22,7 +22,7 @@ use Rattle.points.specs.declared.limits.TheConstants.{MAX_COORD}
 use Rattle.machine.specs.Answers.{opening_text}
 use Rattle.script.specs.Limits.{IsRangeWithin, IsReadableRead, IsReadable}
 use Rattle.script.specs.declared.limits.TheConstants.{MAX_SHOWN, MAX_HITS, MAX_ID}
-use Rattle.script.specs.ScriptDocument.{edit_of, look_of, ranged_of, bare_of, unmark_of, mark_range_of, exclusive_of, compare_of, mark_of, how_of, marks_of, watch_of, unwatch_of, on_marks_of, size_of, look_read_of, read_of, reads_of, take_of, listed_reads, read_command_of, release_of, on_snapshots_of, on_text_of, command_of, commands_of, session_of, sessions_of, opening_of, reading}
+use Rattle.script.specs.ScriptDocument.{edit_of, look_of, ranged_of, bare_of, unmark_of, mark_range_of, exclusive_of, compare_of, mark_of, how_of, marks_of, watch_of, unwatch_of, on_marks_of, size_of, look_read_of, find_of, pattern_of, read_of, reads_of, take_of, listed_reads, read_command_of, release_of, on_snapshots_of, on_text_of, command_of, commands_of, session_of, sessions_of, opening_of, reading}
 use Rattle.script.specs.Parts.{member_count, item_count, string_in, whole_of, whole_in, flag_in, coordinate, point_from, range_by, range_between, range_of, range_in, is_word}
 use Rattle.script.specs.Rules.{is_on_marks, is_on_snapshots, is_version_one, is_one}
 use Rattle.script.specs.ScriptValue.{how_word, read_value, range_value, command_value, session_value, opening_value, script_value}
@@ -462,12 +462,42 @@ look_read_exact d r sorted word e =
     let z = range_exact p.third range (subst (λ v. range_in v ≡ Some range) p.is range_is) in
     subst (λ v. (d ≡ read_value v) × IsReadableRead v) is (three_made (codes "get") (codes "limit") (codes "range") d p _ _ _ x y.0 z.0, (z.1, y.1))))
 
+find_exact : (d : Data) (r : Read) → IsInKeyOrder d → string_in (codes "get") d ≡ Some (codes "find") → find_of d ≡ Some r → (d ≡ read_value r) × IsReadableRead r
+unfolding find_of
+find_exact d r sorted word e =
+    let t = test_some (member_count d == 3) _ r e in
+    option_and_then_some (λ needle. option_map (read.Find needle) (whole_in MAX_HITS (codes "limit") d)) (string_in (codes "needle") d) r t.1 (λ s s_is rest.
+    behind_map (read.Find s) (whole_in MAX_HITS (codes "limit") d) r rest (λ n n_is is.
+    let p = three_of (codes "get") (codes "limit") (codes "needle") d ((refl, (refl, tt)), ((refl, tt), (tt, tt))) sorted (eqb-true (member_count d) 3 t.0) (there as_str _ _ word) (there (whole_of MAX_HITS) _ _ n_is) (there as_str _ _ s_is) in
+    let x = string_exact p.first (codes "find") (subst (λ v. string_in (codes "get") v ≡ Some (codes "find")) p.is word) in
+    let y = whole_exact MAX_HITS n p.second (subst (λ v. whole_in MAX_HITS (codes "limit") v ≡ Some n) p.is n_is) in
+    let z = string_exact p.third s (subst (λ v. string_in (codes "needle") v ≡ Some s) p.is s_is) in
+    subst (λ v. (d ≡ read_value v) × IsReadableRead v) is (three_made (codes "get") (codes "limit") (codes "needle") d p _ _ _ x y.0 z, y.1)))
+
+pattern_exact : (d : Data) (r : Read) → IsInKeyOrder d → string_in (codes "get") d ≡ Some (codes "pattern") → pattern_of d ≡ Some r → (d ≡ read_value r) × IsReadableRead r
+unfolding pattern_of
+pattern_exact d r sorted word e =
+    let t = test_some (member_count d == 3) _ r e in
+    option_and_then_some (λ pattern. option_map (read.Pattern pattern) (whole_in MAX_HITS (codes "limit") d)) (string_in (codes "pattern") d) r t.1 (λ s s_is rest.
+    behind_map (read.Pattern s) (whole_in MAX_HITS (codes "limit") d) r rest (λ n n_is is.
+    let p = three_of (codes "get") (codes "limit") (codes "pattern") d ((refl, (refl, tt)), ((refl, tt), (tt, tt))) sorted (eqb-true (member_count d) 3 t.0) (there as_str _ _ word) (there (whole_of MAX_HITS) _ _ n_is) (there as_str _ _ s_is) in
+    let x = string_exact p.first (codes "pattern") (subst (λ v. string_in (codes "get") v ≡ Some (codes "pattern")) p.is word) in
+    let y = whole_exact MAX_HITS n p.second (subst (λ v. whole_in MAX_HITS (codes "limit") v ≡ Some n) p.is n_is) in
+    let z = string_exact p.third s (subst (λ v. string_in (codes "pattern") v ≡ Some s) p.is s_is) in
+    subst (λ v. (d ≡ read_value v) × IsReadableRead v) is (three_made (codes "get") (codes "limit") (codes "pattern") d p _ _ _ x y.0 z, y.1)))
+
 read_exact : (d : Data) (r : Read) → IsInKeyOrder d → read_of d ≡ Some r → (d ≡ read_value r) × IsReadableRead r
 unfolding read_of
 read_exact d r sorted e =
     elim (either_some (is_word (string_in (codes "get") d) (codes "size")) (size_of d) _ r e) [
       | inl is ↦ size_exact d r sorted (word_exact _ _ is.0) is.1
-      | inr rest ↦ let is = test_some (is_word (string_in (codes "get") d) (codes "text")) (look_read_of d) r rest in look_read_exact d r sorted (word_exact _ _ is.0) is.1
+      | inr rest1 ↦ elim (either_some (is_word (string_in (codes "get") d) (codes "text")) (look_read_of d) _ r rest1) [
+        | inl is ↦ look_read_exact d r sorted (word_exact _ _ is.0) is.1
+        | inr rest2 ↦ elim (either_some (is_word (string_in (codes "get") d) (codes "find")) (find_of d) _ r rest2) [
+          | inl is ↦ find_exact d r sorted (word_exact _ _ is.0) is.1
+          | inr rest3 ↦ let is = test_some (is_word (string_in (codes "get") d) (codes "pattern")) (pattern_of d) r rest3 in pattern_exact d r sorted (word_exact _ _ is.0) is.1
+        ]
+      ]
     ]
 
 reads_exact : (ds : Items) (rs : List Read) → ItemsInKeyOrder ds → reads_of ds ≡ Some rs → (ds ≡ items_of (map read_value rs)) × AllByRecursion IsReadableRead rs

@@ -1,9 +1,9 @@
 -- What the row of a command's word tells where the command has the right shape.
-use Rattle.std.proofs.Common.{◌≡◌, ◌+◌, ◌&&◌, ◌||◌, not, ℕ, List, [], ◌∷◌, length, Bool, true, false, cond, Option, Some, None, option_map, option_and_then, is_some, refl, sym, ap, subst, ◌∙◌}
+use Rattle.std.proofs.Common.{◌≡◌, ◌+◌, ◌&&◌, ◌||◌, not, ℕ, List, [], ◌∷◌, length, Bool, true, false, cond, Option, Some, None, option_map, option_and_then, is_some, refl, sym, ap, subst, ◌∙◌, arith}
 use Rattle.std.specs.Prelude.{◌==◌, codes, unwrap_or}
 use Rattle.std.specs.List.{AllByRecursion, list_all}
 use Rattle.std.specs.Str.{bytes_eq}
-use Rattle.std.proofs.lemmas.Bool.{eqb-true, and_parts, not-false, false≢true}
+use Rattle.std.proofs.lemmas.Bool.{eqb-true, and_parts, not-false, false≢true, ne_eqb}
 use Rattle.points.specs.declared.range.Range.{Range}
 use Rattle.machine.specs.declared.command.Command.{Command}
 use Rattle.machine.specs.declared.command.Command.TheVariants as command
@@ -17,7 +17,7 @@ use Rattle.script.specs.Parts.{member_count, items_in, string_in, whole_of, rang
 use Rattle.script.specs.Rows as kind
 use Rattle.script.specs.Rows.{Kind, Field, how_words}
 use Rattle.script.specs.Rules.{command_breaks, read_breaks, fields_break, any_field_breaks, field_breaks, with_reads, wrong_kind, wrong_number, wrong_encoding, empty_needle, wrong_name, any_item, save_name, names_in, reads_in, is_misshapen, is_unbuilt_read, built_words, built_reads, is_one_of}
-use Rattle.script.specs.ScriptDocument.{edit_of, look_of, ranged_of, bare_of, unmark_of, mark_range_of, exclusive_of, compare_of, mark_of, how_of, marks_of, watch_of, unwatch_of, on_marks_of, size_of, look_read_of, read_of, reads_of, take_of, read_command_of, release_of, on_snapshots_of, on_text_of, command_of}
+use Rattle.script.specs.ScriptDocument.{edit_of, look_of, ranged_of, bare_of, unmark_of, mark_range_of, exclusive_of, compare_of, mark_of, how_of, marks_of, watch_of, unwatch_of, on_marks_of, size_of, look_read_of, find_of, pattern_of, read_of, reads_of, take_of, read_command_of, release_of, on_snapshots_of, on_text_of, command_of}
 use Rattle.script.proofs.RuleLemmas.{or_false, there}
 use Rattle.script.proofs.ScriptExact.{word_exact}
 use Rattle.serde_json.specs.Data.{Data, Items, no_items, item}
@@ -172,6 +172,70 @@ look_read_shaped d kinds word =
     let v = has.1.1.0 in
     shaped_read d fs _ row refl (looked_plain (range_of r.value) (whole_of MAX_SHOWN v.value)) (look_read_by d r.value v.value _ _ has.0 word r.is v.is refl refl) (rw word refl)
 
+-- searches, whose text or pattern is a string
+find_by : (d s v : Data) (t : List ℕ) (p : Option ℕ) → member_count d ≡ 3 → string_in (codes "get") d ≡ Some (codes "find") → get (codes "needle") d ≡ Some s → get (codes "limit") d ≡ Some v → as_str s ≡ Some t → whole_of MAX_HITS v ≡ p
+    → (read_of d ≡ option_map (read.Find t) p) × (read_breaks wrong_number false d ≡ not (is_some (option_map (read.Find t) p)))
+unfolding read_of find_of
+find_by d s v t None n word needle limit is at = (rw (n, word, needle, limit, is, at) refl, rw (word, needle, limit, at) refl)
+find_by d s v t (Some m) n word needle limit is at = (rw (n, word, needle, limit, is, at) refl, rw (word, needle, limit, at) refl)
+
+empty_is : (t : List ℕ) → (bytes_eq t [] || false) ≡ not (not (length t == 0))
+empty_is [] = refl
+empty_is (b ∷ bytes) = let some_units : (length (b ∷ bytes) == 0) ≡ false = ne_eqb (length (b ∷ bytes)) 0 (λ h. omega (arith, h)) in rw some_units refl
+
+find_needle : (t : List ℕ) (p : Option ℕ) (b : Bool) → b ≡ (bytes_eq t [] || false) → NeedleIs (option_map (read.Find t) p) b
+find_needle t None b e = tt
+find_needle t (Some n) b e = e ∙ empty_is t
+
+record IsFindOf (d : Data) (t : List ℕ) : Type 0 where
+  encoding : read_breaks wrong_encoding false d ≡ false
+  needle : read_breaks empty_needle false d ≡ (bytes_eq t [] || false)
+  name : read_breaks wrong_name false d ≡ false
+  names : save_name d ≡ None
+
+find_tests : (d s v : Data) (t : List ℕ) → string_in (codes "get") d ≡ Some (codes "find") → get (codes "needle") d ≡ Some s → get (codes "limit") d ≡ Some v → as_str s ≡ Some t → IsFindOf d t
+find_tests d s v t word needle limit is = record { encoding = rw (word, needle, limit) refl; needle = rw (word, needle, limit, is) refl; name = rw (word, needle, limit) refl; names = rw word refl }
+
+find_shaped : (d : Data) → read_breaks wrong_kind true d ≡ false → string_in (codes "get") d ≡ Some (codes "find") → IsShapedRead d
+find_shaped d kinds word =
+    let fs : List Field = (codes "needle", kind.needle) ∷ (codes "limit", kind.whole MAX_HITS) ∷ [] in
+    let row : HasReadRow d fs = λ test shape. rw word refl in
+    let has = fields_there wrong_kind 3 d fs refl (sym (row wrong_kind true) ∙ kinds) in
+    let s = has.1.0 in
+    let v = has.1.1.0 in
+    let t = there (as_str s.value) s.kind in
+    let by = find_by d s.value v.value t.0 _ has.0 word s.is v.is t.1 refl in
+    let tests = find_tests d s.value v.value t.0 word s.is v.is t.1 in
+    record {
+      found = option_map (read.Find t.0) (whole_of MAX_HITS v.value);
+      read = by.0;
+      number = by.1;
+      encoding = tests.encoding;
+      needle = find_needle t.0 (whole_of MAX_HITS v.value) _ tests.needle;
+      name = tests.name;
+      names = tests.names;
+    }
+
+pattern_by : (d s v : Data) (t : List ℕ) (p : Option ℕ) → member_count d ≡ 3 → string_in (codes "get") d ≡ Some (codes "pattern") → get (codes "pattern") d ≡ Some s → get (codes "limit") d ≡ Some v → as_str s ≡ Some t → whole_of MAX_HITS v ≡ p
+    → (read_of d ≡ option_map (read.Pattern t) p) × (read_breaks wrong_number false d ≡ not (is_some (option_map (read.Pattern t) p)))
+unfolding read_of pattern_of
+pattern_by d s v t None n word pattern limit is at = (rw (n, word, pattern, limit, is, at) refl, rw (word, pattern, limit, at) refl)
+pattern_by d s v t (Some m) n word pattern limit is at = (rw (n, word, pattern, limit, is, at) refl, rw (word, pattern, limit, at) refl)
+
+pattern_plain : (t : List ℕ) (p : Option ℕ) → IsPlainRead (option_map (read.Pattern t) p)
+pattern_plain t None = tt
+pattern_plain t (Some n) = refl
+
+pattern_shaped : (d : Data) → read_breaks wrong_kind true d ≡ false → string_in (codes "get") d ≡ Some (codes "pattern") → IsShapedRead d
+pattern_shaped d kinds word =
+    let fs : List Field = (codes "pattern", kind.text) ∷ (codes "limit", kind.whole MAX_HITS) ∷ [] in
+    let row : HasReadRow d fs = λ test shape. rw word refl in
+    let has = fields_there wrong_kind 3 d fs refl (sym (row wrong_kind true) ∙ kinds) in
+    let s = has.1.0 in
+    let v = has.1.1.0 in
+    let t = there (as_str s.value) s.kind in
+    shaped_read d fs _ row refl (pattern_plain t.0 (whole_of MAX_HITS v.value)) (pattern_by d s.value v.value t.0 _ has.0 word s.is v.is t.1 refl) (rw word refl)
+
 -- one of these words
 one_word : (P : Type 0) (o : Option (List ℕ)) (w : List ℕ) (rest b : Bool) → is_word o w ≡ b → (o ≡ Some w → P) → (rest ≡ true → P) → (b || rest) ≡ true → P
 one_word P o w rest true is first others h = first (word_exact o w is)
@@ -183,7 +247,7 @@ by_words P o (w ∷ ws) each h = one_word P o w (is_one_of ws o) (is_word o w) r
 
 read_shaped : (d : Data) → is_unbuilt_read d ≡ false → read_breaks wrong_kind true d ≡ false → IsShapedRead d
 read_shaped d built kinds =
-    by_words (IsShapedRead d) (string_in (codes "get") d) built_reads (size_shaped d kinds, (look_read_shaped d kinds, tt)) (not-false (is_one_of built_reads (string_in (codes "get") d)) built)
+    by_words (IsShapedRead d) (string_in (codes "get") d) built_reads (size_shaped d kinds, (look_read_shaped d kinds, (find_shaped d kinds, (pattern_shaped d kinds, tt)))) (not-false (is_one_of built_reads (string_in (codes "get") d)) built)
 
 -- what reads of the right shape are
 record AreShapedReads (ds : Items) : Type 0 where

@@ -19,6 +19,8 @@ use Rattle.machine.specs.Plain.{live_after, are_live}
 abbrev pub has_built_read : Read → Bool
 has_built_read read.Size = true
 has_built_read (read.Text range limit) = true
+has_built_read (read.Find needle limit) = true
+has_built_read (read.Pattern pattern limit) = true
 has_built_read r = false
 
 -- a command whose word is built, and those of its reads
@@ -52,6 +54,8 @@ pub record IsRangeWithin (r : Range) : Type 0 where
 abbrev pub IsReadableRead : Read → Type 0
 IsReadableRead read.Size = Unit {0}
 IsReadableRead (read.Text range limit) = IsRangeWithin range × (limit ≤ MAX_SHOWN)
+IsReadableRead (read.Find needle limit) = limit ≤ MAX_HITS
+IsReadableRead (read.Pattern pattern limit) = limit ≤ MAX_HITS
 IsReadableRead r = ⊥
 
 -- a command that is built, its numbers within their limits

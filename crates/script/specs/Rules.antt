@@ -209,7 +209,7 @@ built_words =
 
 -- the words of the reads that are built
 abbrev pub built_reads : List (List ℕ)
-built_reads = codes "size" ∷ codes "text" ∷ []
+built_reads = codes "size" ∷ codes "text" ∷ codes "find" ∷ codes "pattern" ∷ []
 
 -- a command on marks and watchers
 abbrev pub is_on_marks : Data → Bool

@@ -95,10 +95,18 @@ size_of d = if member_count d == 1 then Some read.Size else None
 unfoldable pub look_read_of : Data → Option Read
 look_read_of d = if member_count d == 3 then option_and_then (λ range. option_map (read.Text range) (whole_in MAX_SHOWN (codes "limit") d)) (range_in d) else None
 
+unfoldable pub find_of : Data → Option Read
+find_of d = if member_count d == 3 then option_and_then (λ needle. option_map (read.Find needle) (whole_in MAX_HITS (codes "limit") d)) (string_in (codes "needle") d) else None
+
+unfoldable pub pattern_of : Data → Option Read
+pattern_of d = if member_count d == 3 then option_and_then (λ pattern. option_map (read.Pattern pattern) (whole_in MAX_HITS (codes "limit") d)) (string_in (codes "pattern") d) else None
+
 unfoldable pub read_of : Data → Option Read
 read_of d =
     if is_word (string_in (codes "get") d) (codes "size") then size_of d
-    else (if is_word (string_in (codes "get") d) (codes "text") then look_read_of d else None)
+    else (if is_word (string_in (codes "get") d) (codes "text") then look_read_of d
+    else (if is_word (string_in (codes "get") d) (codes "find") then find_of d
+    else (if is_word (string_in (codes "get") d) (codes "pattern") then pattern_of d else None)))
 
 abbrev pub reads_of : Items → Option (List Read)
 reads_of no_items = Some []

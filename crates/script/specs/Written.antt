@@ -1,5 +1,5 @@
 -- What is written of a document: its JSON tokens, of which each value reads back.
-use Rattle.std.specs.Prelude.{◌≡◌, ℕ, List, ◌∷◌, ◌++◌, Some}
+use Rattle.std.specs.Prelude.{◌≡◌, ℕ, List, [], ◌∷◌, ◌++◌, Some}
 use Rattle.std.specs.declared.cmp.Ordering.TheVariants.{Greater}
 use Rattle.std.specs.Ordering.{nat_cmp}
 use Rattle.std.specs.Cmp.Lexicographic.{slice_cmp}
@@ -8,7 +8,7 @@ use Rattle.json.specs.Tree.{json_tokens}
 use Rattle.json.specs.Written as writer
 use Rattle.serde_json.specs.Data.{Data}
 use Rattle.serde_json.specs.Read.{of_json}
-use Rattle.serde_json.specs.Written.{outline}
+use Rattle.serde_json.specs.Written.{outline, compact_text}
 
 -- the tokens of a value
 abbrev pub tokens_of : Data → List Token
@@ -36,3 +36,7 @@ pub record WritesValue (old new : writer.Written) (d : Data) : Type 0 where
 pub record WritesMember (old new : writer.Written) (k : List ℕ) (d : Data) : Type 0 where
   pub adds : Adds old new (key k ∷ tokens_of d)
   pub readable : IsReadable d
+
+-- the text of a document with this value: its compact JSON text, and a line feed
+abbrev pub text_of_value : Data → List ℕ
+text_of_value d = compact_text d ++ 10 ∷ []

@@ -18,7 +18,7 @@ mod refusal;
 mod replies;
 mod shape;
 mod snapshots;
-mod values;
+pub mod values;
 mod write;
 
 pub use limits::{

@@ -3,12 +3,12 @@ ghost use Rattle.std.specs.Prelude.{◌≡◌};
 ghost use Rattle.std.specs.List.{list_all};
 ghost use Rattle.serde_json.specs.View.{view, items_view};
 ghost use Rattle.script.specs.Limits.{has_needle, has_needles};
-ghost use Rattle.script.specs.ScriptDocument.{size_of, look_read_of, read_of, reads_of, listed_reads};
+ghost use Rattle.script.specs.ScriptDocument.{size_of, look_read_of, find_of, pattern_of, read_of, reads_of, listed_reads};
 ghost use Rattle.script.specs.Reading.{Gives};
 
-use crate::limits::MAX_SHOWN;
+use crate::limits::{MAX_HITS, MAX_SHOWN};
 use crate::parts::{Misfit, member, member_count, range_in, string_in, whole_in};
-use machine::{Command, Read, Sequence};
+use machine::{Command, Read, Sequence, Text};
 use serde_json::Value;
 use std::alloc::Global;
 
@@ -36,9 +36,37 @@ fn look_of(value: &Value) -> Result<Read, Misfit>
     Ok(Read::Text { range, limit })
 }
 
+// A search for a text.
+#[tactic(auto, unfolding(crate::specs::ScriptDocument::find_of))]
+fn find_of(alloc: Global, value: &Value) -> Result<Read, Misfit>
+    ensures { Gives (λ r. r) result (find_of (view value.now)) }
+{
+    if member_count(value) != 3 {
+        return Err(Misfit::Shape);
+    }
+    let needle = string_in(value, "needle")?;
+    let limit = whole_in(MAX_HITS, value, "limit")?;
+    let needle = Text::from_str(alloc, needle)?;
+    Ok(Read::Find { needle, limit })
+}
+
+// A search for the hits of a pattern.
+#[tactic(auto, unfolding(crate::specs::ScriptDocument::pattern_of))]
+fn pattern_of(alloc: Global, value: &Value) -> Result<Read, Misfit>
+    ensures { Gives (λ r. r) result (pattern_of (view value.now)) }
+{
+    if member_count(value) != 3 {
+        return Err(Misfit::Shape);
+    }
+    let pattern = string_in(value, "pattern")?;
+    let limit = whole_in(MAX_HITS, value, "limit")?;
+    let pattern = Text::from_str(alloc, pattern)?;
+    Ok(Read::Pattern { pattern, limit })
+}
+
 // A read, by its word.
 #[tactic(auto, unfolding(crate::specs::ScriptDocument::read_of))]
-fn read_of(value: &Value) -> Result<Read, Misfit>
+fn read_of(alloc: Global, value: &Value) -> Result<Read, Misfit>
     ensures { Gives (λ r. r) result (read_of (view value.now)) }
 {
     let word = string_in(value, "get")?;
@@ -47,6 +75,12 @@ fn read_of(value: &Value) -> Result<Read, Misfit>
     }
     if word == "text" {
         return look_of(value);
+    }
+    if word == "find" {
+        return find_of(alloc, value);
+    }
+    if word == "pattern" {
+        return pattern_of(alloc, value);
     }
     Err(Misfit::Shape)
 }
@@ -57,7 +91,7 @@ fn reads_of(alloc: Global, items: &[Value]) -> Result<Vec<Read>, Misfit>
 {
     let mut reads = Vec::new(alloc);
     for item in items {
-        let read = read_of(item)?;
+        let read = read_of(alloc, item)?;
         reads.push(read)?;
     }
     Ok(reads)

@@ -6,7 +6,7 @@ ghost use Rattle.serde_json.specs.Data.{string};
 ghost use Rattle.script.specs.TranscriptDocument.{refusal_word, order_word, part_value, answer_value, reply_value};
 ghost use Rattle.script.specs.Written.{WritesValue};
 
-use crate::values::{HasValue, write_member, write_one, write_two};
+use crate::values::{HasValue, write_member, write_one, write_three, write_two};
 use json::Writer;
 use machine::{CallRefusal, HitNumbers, ReadAnswer, Reply, ReplyPart, Sequence, Span, Text};
 use points::{MarkOrder, Point};
@@ -110,11 +110,7 @@ fn write_edited(
 fn write_text(at: &u64, text: &Text, units: &u64, out: &mut Writer) -> Result<(), AllocError>
     ensures { OnOk result (WritesValue out.old out.new (reply_value (reply.Text at.now text.now units.now))) }
 {
-    out.begin_object()?;
-    write_member("at", at, out)?;
-    write_member("text", text, out)?;
-    write_member("units", units, out)?;
-    out.end_object()
+    write_three("at", at, "text", text, "units", units, out)
 }
 
 // Where a mark is.
@@ -122,11 +118,7 @@ fn write_range(at: &u64, exclusive: &bool, range: &Span, out: &mut Writer) -> Re
     ensures { OnOk result (WritesValue out.old out.new
         (reply_value (reply.Range at.now exclusive.now range.now))) }
 {
-    out.begin_object()?;
-    write_member("at", at, out)?;
-    write_member("exclusive", exclusive, out)?;
-    write_member("range", range, out)?;
-    out.end_object()
+    write_three("at", at, "exclusive", exclusive, "range", range, out)
 }
 
 impl HasValue for Reply {

@@ -48,9 +48,10 @@ fn lacks_range(value: &Value) -> bool
     }
 }
 
-// Whether the member is a string.
+// Whether the member is a string; a needle is one too.
 fn lacks_text(value: &Value, key: &str) -> bool
-    ensures { result ≡ field_breaks wrong_kind true kind.text (get key.now (view value.now)) }
+    ensures text { result ≡ field_breaks wrong_kind true kind.text (get key.now (view value.now)) }
+    ensures needle { result ≡ field_breaks wrong_kind true kind.needle (get key.now (view value.now)) }
 {
     match value.get(key) {
         Some(text) => text.as_str().is_none(),
@@ -60,7 +61,8 @@ fn lacks_text(value: &Value, key: &str) -> bool
 
 // Whether the member `limit` is a number.
 fn lacks_limit(value: &Value) -> bool
-    ensures { result ≡ field_breaks wrong_kind true (kind.whole MAX_SHOWN) (get (codes "limit") (view value.now)) }
+    ensures shown { result ≡ field_breaks wrong_kind true (kind.whole MAX_SHOWN) (get (codes "limit") (view value.now)) }
+    ensures hits { result ≡ field_breaks wrong_kind true (kind.whole MAX_HITS) (get (codes "limit") (view value.now)) }
 {
     match value.get("limit") {
         Some(limit) => limit.as_number().is_none(),
@@ -124,6 +126,12 @@ fn is_misshapen_get(word: &str, value: &Value) -> bool
     }
     if word == "text" {
         return member_count(value) != 3 || lacks_range(value) || lacks_limit(value);
+    }
+    if word == "find" {
+        return member_count(value) != 3 || lacks_text(value, "needle") || lacks_limit(value);
+    }
+    if word == "pattern" {
+        return member_count(value) != 3 || lacks_text(value, "pattern") || lacks_limit(value);
     }
     true
 }

@@ -1,25 +1,29 @@
-//! Writing what a document holds as JSON: numbers, texts, points and lists, and objects member by member.
-ghost use Rattle.std.specs.Prelude.{OnOk};
-ghost use Rattle.serde_json.specs.Data.{Data, boolean, string, object, no_members, member};
+//! Writing what a document holds as JSON: numbers, texts, points and lists, objects member by member, and whole
+//! documents.
+ghost use Rattle.std.specs.Prelude.{◌≡◌, ◌≤◌, Some, IfOk, OnOk};
+ghost use Rattle.serde_json.specs.Data.{Data, boolean, string, object, no_members, member, depth};
+ghost use Rattle.serde_json.specs.Read.{max_depth};
+ghost use Rattle.script.specs.ScriptDocument.{document};
 ghost use Rattle.script.specs.TranscriptDocument.{whole, point_value, span_value, hits_value, list_value};
-ghost use Rattle.script.specs.Written.{IsAbove, WritesValue, WritesMember};
+ghost use Rattle.script.specs.Written.{IsAbove, WritesValue, WritesMember, text_of_value};
 
 use json::Writer;
 use machine::{HitNumbers, Sequence, Span, Text};
-use points::Point;
-use std::alloc::AllocError;
+use points::{NoMemory, Point};
+use std::alloc::{AllocError, Global};
 
-// What has a JSON value, which can be written.
-pub(crate) trait HasValue {
+/// What has a JSON value, which can be written.
+pub trait HasValue {
     // The JSON value.
     ghost json: { Self → Data };
 
+    /// Writes the value, behind what was written before.
     fn write(&self, out: &mut Writer) -> Result<(), AllocError>
         ensures { OnOk result (WritesValue out.old out.new (json self.now)) };
 }
 
-// A list, with the value of each member.
-pub(crate) fn write_list<T: HasValue>(members: &[T], out: &mut Writer) -> Result<(), AllocError>
+/// Writes a list, with the value of each member.
+pub fn write_list<T: HasValue>(members: &[T], out: &mut Writer) -> Result<(), AllocError>
     ensures { OnOk result (WritesValue out.old out.new (list_value T.HasValue.json members.now)) }
 {
     out.begin_array()?;
@@ -29,20 +33,16 @@ pub(crate) fn write_list<T: HasValue>(members: &[T], out: &mut Writer) -> Result
     out.end_array()
 }
 
-// One member of an object.
-pub(crate) fn write_member<T: HasValue>(
-    key: &str,
-    of: &T,
-    out: &mut Writer,
-) -> Result<(), AllocError>
+/// Writes one member of an object.
+pub fn write_member<T: HasValue>(key: &str, of: &T, out: &mut Writer) -> Result<(), AllocError>
     ensures { OnOk result (WritesMember out.old out.new key.now (T.HasValue.json of.now)) }
 {
     out.key(key)?;
     of.write(out)
 }
 
-// An object of one member.
-pub(crate) fn write_one<T: HasValue>(key: &str, of: &T, out: &mut Writer) -> Result<(), AllocError>
+/// Writes an object of one member.
+pub fn write_one<T: HasValue>(key: &str, of: &T, out: &mut Writer) -> Result<(), AllocError>
     ensures { OnOk result (WritesValue out.old out.new
         (object (member key.now (T.HasValue.json of.now) no_members))) }
 {
@@ -51,8 +51,8 @@ pub(crate) fn write_one<T: HasValue>(key: &str, of: &T, out: &mut Writer) -> Res
     out.end_object()
 }
 
-// An object of two members, in the order of their keys.
-pub(crate) fn write_two<A: HasValue, B: HasValue>(
+/// Writes an object of two members, in the order of their keys.
+pub fn write_two<A: HasValue, B: HasValue>(
     key: &str,
     a: &A,
     other: &str,
@@ -67,6 +67,42 @@ pub(crate) fn write_two<A: HasValue, B: HasValue>(
     write_member(key, a, out)?;
     write_member(other, b, out)?;
     out.end_object()
+}
+
+/// Writes an object of three members, in the order of their keys.
+pub fn write_three<A: HasValue, B: HasValue, C: HasValue>(
+    key: &str,
+    a: &A,
+    other: &str,
+    b: &B,
+    last: &str,
+    c: &C,
+    out: &mut Writer,
+) -> Result<(), AllocError>
+    requires first { IsAbove key.now other.now }
+    requires second { IsAbove key.now last.now }
+    requires third { IsAbove other.now last.now }
+    ensures { OnOk result (WritesValue out.old out.new (object (member key.now (A.HasValue.json a.now)
+        (member other.now (B.HasValue.json b.now) (member last.now (C.HasValue.json c.now) no_members))))) }
+{
+    out.begin_object()?;
+    write_member(key, a, out)?;
+    write_member(other, b, out)?;
+    write_member(last, c, out)?;
+    out.end_object()
+}
+
+/// The text of a document: its compact JSON text, and one line feed. It reads back as the document's value.
+pub fn document_bytes<T: HasValue>(alloc: Global, of: &T) -> Result<Vec<u8>, NoMemory>
+    requires { depth (T.HasValue.json of.now) ≤ max_depth }
+    ensures text { IfOk result (λ b. b.items ≡ text_of_value (T.HasValue.json of.now)) }
+    ensures reads_back { IfOk result (λ b. document b.items ≡ Some (T.HasValue.json of.now)) }
+{
+    let mut out = Writer::new(Vec::new(alloc));
+    of.write(&mut out)?;
+    let mut bytes = out.into_inner();
+    bytes.push(b'\n')?;
+    Ok(bytes)
 }
 
 impl HasValue for u32 {

@@ -1,10 +1,9 @@
 //! From a transcript to its text.
-ghost use Rattle.std.specs.Prelude.{◌≡◌, Some, IfOk, OnOk};
+ghost use Rattle.std.specs.Prelude.{◌≡◌, Some, IfOk};
 ghost use Rattle.script.specs.ScriptDocument.{document};
 ghost use Rattle.script.specs.TranscriptDocument.{end_value, transcript_value, transcript_text};
-ghost use Rattle.script.specs.Written.{WritesValue};
 
-use crate::values::{HasValue, write_member, write_two};
+use crate::values::{HasValue, document_bytes, write_three, write_two};
 use json::Writer;
 use machine::{Transcript, TranscriptEnd};
 use points::NoMemory;
@@ -18,25 +17,27 @@ impl HasValue for TranscriptEnd {
     }
 }
 
-// The whole transcript.
-fn write_transcript(transcript: &Transcript, out: &mut Writer) -> Result<(), AllocError>
-    ensures { OnOk result (WritesValue out.old out.new (transcript_value transcript.now)) }
-{
-    out.begin_object()?;
-    write_member("end", &transcript.end, out)?;
-    write_member("sessions", &transcript.sessions, out)?;
-    write_member("version", &transcript.version, out)?;
-    out.end_object()
+impl HasValue for Transcript {
+    ghost json = { transcript_value };
+
+    fn write(&self, out: &mut Writer) -> Result<(), AllocError> {
+        write_three(
+            "end",
+            &self.end,
+            "sessions",
+            &self.sessions,
+            "version",
+            &self.version,
+            out,
+        )
+    }
 }
 
 /// The text of a transcript: its compact JSON text, and one line feed. It reads back as the transcript's value.
+#[tactic(auto, using(crate::proofs::ReadBack::transcript_value_depth), unfolding(crate::specs::TranscriptDocument::transcript_text))]
 pub fn transcript_bytes(alloc: Global, transcript: &Transcript) -> Result<Vec<u8>, NoMemory>
     ensures text { IfOk result (λ b. b.items ≡ transcript_text transcript.now) }
     ensures reads_back { IfOk result (λ b. document b.items ≡ Some (transcript_value transcript.now)) }
 {
-    let mut out = Writer::new(Vec::new(alloc));
-    write_transcript(transcript, &mut out)?;
-    let mut bytes = out.into_inner();
-    bytes.push(b'\n')?;
-    Ok(bytes)
+    document_bytes(alloc, transcript)
 }
