@@ -4,6 +4,8 @@ ghost use Rattle.outer.specs.Count.{Rose};
 ghost use Rattle.outer.specs.Source.{Gives, IsAtEnd};
 ghost use Rattle.outer.specs.Sink.{Appends, AppendsPrefix};
 
+mod folders;
+
 use outer::{Failed, MemSink, MemSource, Sink, Source, SureSink, SureSource};
 use std::alloc::{AllocError, Global};
 use std::test::Fail;

@@ -1,5 +1,5 @@
 -- Counts over several calls in a row: where one of them rose, the count of all rose.
-use Rattle.std.proofs.Common.{◌≡◌, ℕ, ◌<◌, ◌≤◌, arith}
+use Rattle.std.proofs.Common.{ℕ, ◌<◌, ◌≤◌, arith}
 use Rattle.std.specs.Prelude.{Result, Ok, Err, IsOk, OnErr, refl}
 use Rattle.outer.specs.Count.{LAST_COUNT, Rose}
 

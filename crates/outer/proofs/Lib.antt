@@ -5,3 +5,6 @@ pub mod HitLemmas
 pub mod MatchLemmas
 pub mod PutLemmas
 pub mod SoundLemmas
+mod Entries
+pub mod Files
+pub mod Kept

@@ -1,8 +1,8 @@
 -- The matches of `memchr` are the literal hits.
-use Rattle.std.proofs.Common.{◌≡◌, ℕ, zero, suc, ◌+◌, ◌-◌, ◌<◌, ◌≤◌, max, List, [], ◌∷◌, length, drop, Bool, true, false, refl, sym, ap, subst, ◌∙◌, inl, inr, arith, length-drop}
-use Rattle.std.proofs.lemmas.Bool.{cases_Bool, cond-true, cond-false, both_ways}
+use Rattle.std.proofs.Common.{◌≡◌, ℕ, zero, suc, ◌+◌, ◌-◌, ◌<◌, max, List, [], ◌∷◌, length, drop, false, refl, sym, ap, ◌∙◌, inl, inr, arith, length-drop}
+use Rattle.std.proofs.lemmas.Bool.{cases_Bool, cond-true, cond-false}
 use Rattle.std.proofs.lemmas.List.{drop-drop}
-use Rattle.memchr.specs.Find.{OccursAt, occurs_at, match_len, matches_from, matches}
+use Rattle.memchr.specs.Find.{OccursAt, occurs_at, matches_from, matches}
 use Rattle.memchr.proofs.lemmas.MatchLemmas.{occurs_at-true, OccursAt-true}
 use Rattle.points.specs.Literal.{stands_in_front, hits_from, hits}
 use Rattle.outer.proofs.HitLemmas.{hits_hit, hits_miss, occurs_here, occurs_not}

@@ -6,3 +6,5 @@ pub mod Memory
 pub mod Matcher
 pub mod Literal
 pub mod Leftmost
+pub mod Folder
+pub mod FileList

@@ -1,7 +1,7 @@
 -- Literal matchers: the hits that they tell, and the makers in memory.
 use Rattle.std.specs.Prelude.{ℕ, ◌+◌, List, [], ◌∷◌, length, map, Bool, true, false, ◌||◌, if◌then◌else◌, Option, Some}
 use Rattle.points.specs.Literal.{hits}
-use Rattle.outer.specs.Plan.{Plan, plan_of, is_due, after_call}
+use Rattle.outer.specs.Plan.{Plan, is_due, after_call}
 
 -- a hit of so many bytes at each of these offsets
 abbrev pub spans_of : ℕ → List ℕ → List (ℕ × ℕ)

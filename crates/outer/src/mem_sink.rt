@@ -48,6 +48,21 @@ impl MemSink {
     {
         self.store.as_slice()
     }
+
+    /// The bytes that it took, over the same memory.
+    pub(crate) fn into_bytes(self) -> Vec<u8>
+        ensures { result.items ≡ self.taken }
+    {
+        let MemSink { store, plan: _ } = self;
+        store.into_bytes()
+    }
+
+    /// Whether a call failed.
+    pub(crate) fn has_failed(&self) -> bool
+        ensures { result ≡ nat_lt 0 self.now.plan.faults }
+    {
+        self.plan.has_faults()
+    }
 }
 
 impl Sink for MemSink {

@@ -1,5 +1,5 @@
 //! A source in memory that fails at the calls that a test names.
-ghost use Rattle.std.specs.Prelude.{◌≡◌, ◌≤◌, ◌++◌, length, min, take, drop, Some, is_err, IfOk, OnErr};
+ghost use Rattle.std.specs.Prelude.{◌≡◌, ◌≤◌, ◌++◌, length, min, take, drop, Some, is_err, nat_lt, IfOk, OnErr};
 ghost use Rattle.outer.specs.Count.{Rose};
 ghost use Rattle.outer.specs.Plan.{plan_of, is_due, after_call};
 
@@ -36,6 +36,13 @@ impl MemSource {
             left: Remaining::new(bytes),
             plan: Plan::new(fails),
         }
+    }
+
+    /// Whether a read failed.
+    pub(crate) fn has_failed(&self) -> bool
+        ensures { result ≡ nat_lt 0 self.now.plan.faults }
+    {
+        self.plan.has_faults()
     }
 }
 

@@ -1,5 +1,5 @@
 //! The plan of a fake: which of its calls fail, by their numbers.
-ghost use Rattle.std.specs.Prelude.{◌≡◌, ◌+◌, ◌≤◌, ◌==◌};
+ghost use Rattle.std.specs.Prelude.{◌≡◌, ◌+◌, ◌≤◌, ◌==◌, nat_lt};
 ghost use Rattle.std.specs.List.{list_any};
 ghost use Rattle.outer.specs.Count.{Rose};
 ghost use Rattle.outer.specs.Plan.{plan_of, is_due, with_call, with_fault};
@@ -42,9 +42,23 @@ impl Plan {
         ensures due { result ≡ is_due self.old }
         ensures counted { self.new ≡ with_call self.old }
     {
-        let due = has_next(&self.fails, self.calls);
+        let due = self.is_next_due();
         self.calls = self.calls.saturating_add(1);
         due
+    }
+
+    /// Whether the next call is one of those that fail.
+    pub(crate) fn is_next_due(&self) -> bool
+        ensures { result ≡ is_due self.now }
+    {
+        has_next(&self.fails, self.calls)
+    }
+
+    /// Whether there was a fault.
+    pub(crate) fn has_faults(&self) -> bool
+        ensures { result ≡ nat_lt 0 self.now.faults }
+    {
+        self.faults > 0
     }
 
     /// Counts a fault.

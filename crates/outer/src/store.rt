@@ -53,6 +53,14 @@ impl Store {
         self.bytes.as_slice()
     }
 
+    /// The bytes, over the same memory.
+    pub(crate) fn into_bytes(self) -> Vec<u8>
+        ensures { result.items ≡ self.taken }
+    {
+        let Store { bytes, room: _ } = self;
+        bytes
+    }
+
     /// Drops every byte.
     pub(crate) fn clear(&mut self)
         ensures taken { self.new.taken ≡ [] }

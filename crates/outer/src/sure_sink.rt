@@ -1,5 +1,5 @@
 //! A sink in memory that never fails: a caller of the trait is proved to answer no fault over it.
-ghost use Rattle.std.specs.Prelude.{◌≡◌, [], length, Some, IsOk, IfOk};
+ghost use Rattle.std.specs.Prelude.{◌≡◌, [], length, Some, option_map, IsOk, IfOk};
 ghost use Rattle.std.specs.Option.{option_copied};
 ghost use Rattle.outer.specs.Memory.{within_room};
 
@@ -47,6 +47,18 @@ impl SureSink {
     {
         if self.whole {
             Some(self.store.as_slice())
+        } else {
+            None
+        }
+    }
+
+    /// The bytes that it took, over the same memory, if it tells them.
+    pub(crate) fn into_bytes(self) -> Option<Vec<u8>>
+        ensures { option_map (λ bytes. bytes.items) result ≡ self.taken }
+    {
+        let SureSink { store, whole } = self;
+        if whole {
+            Some(store.into_bytes())
         } else {
             None
         }
