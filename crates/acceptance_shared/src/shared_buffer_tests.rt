@@ -1,21 +1,24 @@
-//! Two desks that take turns, and hands that come and go.
-ghost use Rattle.std.specs.Prelude.{◌≤◌, IfSome};
+//! Two desks that take turns, hands that come and go, and snapshots that keep their text.
+ghost use Rattle.std.specs.Prelude.{◌≡◌, ◌≤◌, [], ◌∷◌, IfOk, IfSome};
+ghost use Rattle.layers.specs.Shelf.{top_layers};
+ghost use Rattle.chains.specs.Layered.{on_base};
 ghost use Rattle.shared_buffer.specs.Tokens.{IsDeskOf};
 ghost use Rattle.acceptance_shared.specs.Sharing.{AreDesksOf};
 
-use layers::Reader;
+use layers::{Reader, Shape, Shelf, places_are_sound};
+use line_text::LineText;
 use machine::{Command, Reply, Text};
 use plain_replay::Plain;
 use points::{MAX_UNITS, NoMemory, Point, Range, Units};
-use shared_buffer::{Desk, HandRefusal, PlainBuffer, SharedBuffer, Started};
+use shared_buffer::{Desk, Hand, HandRefusal, PlainBuffer, SharedBuffer, Snapshot, Started};
 use std::alloc::Global;
 use std::sync::Wait;
 use std::test::Fail;
 
 // The plain machine, as far as it counts.
 #[derive(Drop)]
-struct Counting {
-    plain: Plain,
+pub(crate) struct Counting {
+    pub(crate) plain: Plain,
 }
 
 impl PlainBuffer for Counting {
@@ -27,14 +30,18 @@ impl PlainBuffer for Counting {
 
     ghost version = { 2 };
 
+    ghost sizes = { λ b. record { changes = 0; units = 0 } ∷ [] };
+
     fn count(&self) -> u64 {
         self.plain.count()
     }
 
-    // It has no layers that a reader could share.
+    // It has no layers that a reader could share, so the reader has a base of its own.
     fn reader(&self, alloc: Global) -> Result<(Reader, u64), NoMemory> {
-        let _ = alloc;
-        Err(NoMemory)
+        let shelf = based(alloc, &self.plain)?;
+        places_are_sound(&shelf);
+        let reader = shelf.reader(shelf.top())?;
+        Ok((reader, self.plain.version()))
     }
 
     fn units(&self, alloc: Global) -> Result<Units, NoMemory> {
@@ -50,12 +57,41 @@ impl PlainBuffer for Counting {
         }
         self.plain.step(command)
     }
+
+    fn hold(&mut self, hand: u32) {
+        let _ = hand;
+    }
+
+    fn let_go(&mut self, hand: u32) {
+        let _ = hand;
+    }
+
+    fn squash(&mut self, alloc: Global) -> Result<u32, NoMemory> {
+        let _ = alloc;
+        Ok(1)
+    }
+
+    fn shape(&self, alloc: Global) -> Result<Shape, NoMemory> {
+        based(alloc, &self.plain)?.shape()
+    }
+}
+
+// A shelf with the text as its base.
+fn based(alloc: Global, plain: &Plain) -> Result<Shelf, NoMemory>
+    ensures { IfOk result (λ shelf. top_layers shelf ≡ on_base plain.now.text []) }
+{
+    let mut units = Units::new(alloc);
+    units.append(plain.text())?;
+    match LineText::from_units(units) {
+        Ok(text) => Shelf::new(alloc, text, 0),
+        Err(_) => Err(NoMemory),
+    }
 }
 
 type Buffer = SharedBuffer<Counting>;
 
 // The plain machine over an empty text.
-fn plain(alloc: Global) -> Option<Plain> {
+pub(crate) fn plain(alloc: Global) -> Option<Plain> {
     let units = Units::from_str(alloc, "").ok()?;
     if units.len() > MAX_UNITS {
         return None;
@@ -175,4 +211,81 @@ fn most_hands<R: Wait>(rt: &R, alloc: Global) -> Option<(u32, u32, bool)> {
 #[test]
 fn hands_are_made_up_to_32(rt: HostRuntime) {
     assert_eq!(rt; most_hands(&rt, rt.alloc()), Some((31, 31, true)));
+}
+
+// Whether a snapshot still shows this many units.
+fn shows(buffer: &Buffer, snapshot: &Snapshot, units: usize) -> bool {
+    match buffer.open_snapshot(snapshot) {
+        Ok(reader) => reader.len() == units,
+        Err(NoMemory) => false,
+    }
+}
+
+// Whether a snapshot that one desk takes stays as it is beside another desk's edits and a squash.
+fn snapshot_stays<R: Wait>(
+    rt: &R,
+    alloc: Global,
+    buffer: &Buffer,
+    one: &mut Desk,
+    other: &mut Desk,
+    hand: Hand,
+) -> bool
+    requires one { IsDeskOf buffer.now one.old }
+    requires other { IsDeskOf buffer.now other.old }
+    ensures one { IsDeskOf buffer.now one.new }
+    ensures other { IsDeskOf buffer.now other.new }
+{
+    match buffer.take(rt, one, hand) {
+        Ok(snapshot) => {
+            let typed = typed(rt, alloc, buffer, other).is_some();
+            let squashed = buffer.squash(rt, one).is_ok();
+            let shown = snapshot.version == 1 && shows(buffer, &snapshot, 1);
+            buffer.release(snapshot).retire();
+            typed && squashed && shown
+        }
+        Err(hand) => {
+            hand.retire();
+            false
+        }
+    }
+}
+
+// A text of one unit, seen by a snapshot while another desk edits it.
+fn snapshots<R: Wait>(rt: &R, alloc: Global) -> Option<bool> {
+    let (buffer, mut desks) = started(alloc, 2)?;
+    let mut one = taken(&buffer, &mut desks)?;
+    let mut other = taken(&buffer, &mut desks)?;
+    typed(rt, alloc, &buffer, &mut other)?;
+    let hand = buffer.hand(rt, &mut one).ok()?;
+    let stays = snapshot_stays(rt, alloc, &buffer, &mut one, &mut other, hand);
+    let layers = buffer.shape(rt, &mut one).ok()?.as_slice().len();
+    Some(stays && layers == 1)
+}
+
+#[test]
+fn a_snapshot_shows_the_text_of_its_take(rt: HostRuntime) {
+    assert_eq!(rt; snapshots(&rt, rt.alloc()), Some(true));
+}
+
+// The numbers of the hands that a buffer starts with, and of the next one.
+fn first_hands<R: Wait>(rt: &R, alloc: Global) -> Option<(usize, u32)> {
+    let plain = plain(alloc)?;
+    let Ok((started, mut hands)) = SharedBuffer::start_with_hands(alloc, Counting { plain }, 1, 3)
+    else {
+        return None;
+    };
+    let Started { buffer, mut desks } = started;
+    let count = hands.len();
+    while let Some(hand) = hands.pop() {
+        hand.retire();
+    }
+    hands.destroy_empty();
+    let mut desk = desks.pop()?;
+    let next = kept(rt, &buffer, &mut desk).ok()?;
+    Some((count, next))
+}
+
+#[test]
+fn hands_are_there_from_the_start(rt: HostRuntime) {
+    assert_eq!(rt; first_hands(&rt, rt.alloc()), Some((3, 3)));
 }

@@ -1,2 +1,3 @@
 mod RoomLemmas
 mod TokenLemmas
+mod HandLemmas

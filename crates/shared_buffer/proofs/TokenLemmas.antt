@@ -11,7 +11,8 @@ use Rattle.machine.specs.Plain.{plain_reply}
 use Rattle.turn_table.specs.Meaning.{MayFollow, lowest, HasRoom}
 use Rattle.turn_table.specs.History.{entry}
 use Rattle.turn_table.specs.declared.view.Role.{Role}
-use Rattle.turn_table.specs.Views.{view, hand, caller, added, stands_for}
+use Rattle.turn_table.specs.declared.view.Role.TheVariants.{Desk, Hand, Deals, Nothing}
+use Rattle.turn_table.specs.Views.{view, hand, caller, added, stands_for, Mine}
 use Rattle.turn_table.specs.Tokens.{is_own, IsDesk}
 use Rattle.turn_table.specs.Given.{one_view}
 use Rattle.turn_table.specs.Calls.{Has, Turned, Took, Looked}
@@ -19,7 +20,7 @@ use Rattle.turn_table.proofs.HistoryLemmas.{state_after-append}
 use Rattle.turn_table.proofs.DeskLemmas.{had, turned_as}
 use Rattle.turn_table.proofs.GivenLemmas.{has_hand_in}
 use Rattle.shared_buffer.specs.Entries.{Shared, Entry, called, handed, taken, finished, is_numbered, said, Meets, free_of, free_number}
-use Rattle.shared_buffer.specs.Tokens.{Opening, Known, Line, rules, behind, own_calls, IsSeatOf, Called, Stays, IsSpent, IsHanded, IsFull, IsTaken, IsFinished}
+use Rattle.shared_buffer.specs.Tokens.{Opening, Known, Line, rules, behind, own_calls, IsSeatOf, Called, Stays, IsSpent, IsHanded, IsFull, IsEntered, IsTaken, IsFinished}
 
 said_some : (b : Bool) (a r : Reply) → Some r ≡ cond b (Some a) None → (b ≡ true) × (r ≡ a)
 said_some true a r e = (refl, cc)
@@ -28,6 +29,13 @@ said_some false a r e = absurd cc
 said_none : (b : Bool) (a : Reply) → None ≡ cond b (Some a) None → b ≡ false
 said_none true a e = absurd cc
 said_none false a e = refl
+
+-- an entry without a number leaves the role of its seat
+same_role : (o : Opening) (r : Role Entry) (e : Line) → is_numbered e.told ≡ false → added (rules o) r e ≡ r
+same_role o (Desk d) e plain = rw plain refl
+same_role o (Hand h) e plain = refl
+same_role o (Deals d) e plain = refl
+same_role o Nothing e plain = refl
 
 module _ (o : Opening) where
   -- one call of a desk
@@ -40,15 +48,16 @@ module _ (o : Opening) where
       let e : called c (Some r) ≡ called c (said o.version x.plain c) = took.legal in
       let s : Some r ≡ said o.version x.plain c = cc (e) in
       let both = said_some (nat_lt x.plain.count LAST) (plain_reply o.version x.plain [] [] c) r s in
-      record { between = took.between; seen = took.seen; left = both.0; reply = both.1; mine = took.mine refl; informed = took.knows }
+      record { between = took.between; seen = took.seen; left = both.0; reply = both.1; role = took.role; mine = took.mine refl; informed = took.knows }
 
   pub stays_looked : (v w : Known) → Looked (rules o) (MayFollow (rules o) Meets) o.start o.desks v w → Stays o v w
-  stays_looked v w looked = record { seen = looked.seen; mine = looked.mine; informed = looked.knows }
+  stays_looked v w looked = record { seen = looked.seen; role = looked.role; mine = looked.mine; informed = looked.knows }
 
   -- an entry without a number
   stays_took : (t : Entry) (given : Option Known) (v w : Known) → is_numbered t ≡ false → Takes given t v w → Stays o v w
   stays_took t given v w plain took = let more : List Line = entry (caller v.role) t ∷ [] in record {
     seen = (took.between ++ more, sym (append_assoc v.seen took.between more) ∙ sym took.seen);
+    role = took.role ∙ same_role o v.role (entry (caller v.role) t) plain;
     mine = took.mine refl ∙ (ap (λ b. own_calls o v ++ cond b more []) plain ∙ append-nil (own_calls o v));
     informed = took.knows;
   }
@@ -126,6 +135,16 @@ module _ (o : Opening) where
   pub full_stays : (old new : List Known) → Turned (IsFull o) old new → Turned (Stays o) old new
   full_stays old new t = turned_as (IsFull o) (Stays o) old new t (λ v w full. full.stays)
 
+  -- ---- what the state doesn't fix
+
+  pub entered_of : (t : Entry) (given : Option Known) (v w : Known) → is_numbered t ≡ false → Takes given t v w → IsEntered o t v w
+  entered_of t given v w plain took = record {
+    stays = stays_took t given v w plain took;
+    before = v.seen ++ took.between;
+    seen = took.seen;
+    begun = (took.between, refl);
+  }
+
   -- ---- a snapshot
 
   pub taken_of : (text : List ℕ) (version : ℕ) (given : Option Known) (v w : Known) → Takes given (taken text version) v w → IsTaken o text version v w
@@ -143,12 +162,11 @@ module _ (o : Opening) where
 
   -- ---- the end
 
-  pub finished_of : (text : List ℕ) (count : ℕ) (given : Option Known) (v w : Known) → IsDesk v → Takes given (finished text count) v w → IsFinished o text count v
-  finished_of text count given v w d took =
+  pub finished_of : (text : List ℕ) (count : ℕ) (given : Option Known) (v w : Known) → Takes given (finished text count) v w → IsFinished o text count v
+  finished_of text count given v w took =
       let x = behind o (v.seen ++ took.between) in
       let e : finished text count ≡ finished x.plain.text x.plain.count = took.legal in
       let same : behind o w.seen ≡ x = still (finished text count) given v w took refl in
-      let role : w.role ≡ v.role = took.role ∙ (ap (λ (r : Role Entry). added (rules o) r (entry (caller v.role) (finished text count))) d.role ∙ sym d.role) in
       let stays : Stays o v w = stays_took (finished text count) given v w refl took in
       record {
         log = w.seen;
@@ -156,8 +174,10 @@ module _ (o : Opening) where
         history = took.knows.legal;
         text_is = let t : text ≡ x.plain.text = cc (e) in t ∙ ap (λ (y : Shared). y.plain.text) (sym same);
         count_is = let n : count ≡ x.plain.count = cc (e) in n ∙ ap (λ (y : Shared). y.plain.count) (sym same);
-        own = ap (λ (r : Role Entry). filter (is_own (rules o) r) w.seen) (sym role) ∙ stays.mine;
-        whole = λ all. sym (took.knows.whole (λ n below. ap (λ (r : Role Entry). stands_for r n) role ∙ all n below)) ∙ stays.mine;
+        own = ap (λ (r : Role Entry). filter (is_own (rules o) r) w.seen) (sym stays.role) ∙ stays.mine;
+        parts = subst (λ (r : Role Entry). Mine (rules o) w.seen r) stays.role took.knows.parts;
+        callers = took.knows.called;
+        whole = λ all. sym (took.knows.whole (λ n below. ap (λ (r : Role Entry). stands_for r n) stays.role ∙ all n below)) ∙ stays.mine;
       }
 
 -- ---- seen from the buffer, which clauses see as an opening
@@ -168,13 +188,13 @@ spent_here o p c r given old new same none t = subst (λ (z : Opening). Turned (
 pub full_here : (o p : Opening) (r : Option ℕ) (given : Option Known) (old new : List Known) → o ≡ p → None ≡ r → Turned (Takes o given (handed r)) old new → Turned (IsFull p) old new
 full_here o p r given old new same none t = subst (λ (z : Opening). Turned (IsFull z) old new) same (full_turned o given old new (subst (λ (z : Option ℕ). Turned (Takes o given (handed z)) old new) (sym none) t))
 
-pub finish_here : (o p : Opening) (text : List ℕ) (count : ℕ) (end : List ℕ × ℕ) (given : Option Known) (views : List Known) → o ≡ p → (text, count) ≡ end → Has IsDesk views
+pub finish_here : (o p : Opening) (text : List ℕ) (count : ℕ) (end : List ℕ × ℕ) (given : Option Known) (views : List Known) → o ≡ p → (text, count) ≡ end
     → ((v : Known) → views ≡ v ∷ [] → (w : Known) × Takes o given (finished end.0 end.1) v w) → (v : Known) → views ≡ v ∷ [] → IsFinished p text count v
-finish_here o p text count end given views same is has all v e =
+finish_here o p text count end given views same is all v e =
     let t = all v e in
     let text_is : text ≡ end.0 = ap (λ (x : List ℕ × ℕ). x.0) is in
     let count_is : count ≡ end.1 = ap (λ (x : List ℕ × ℕ). x.1) is in
-    subst (λ (z : Opening). IsFinished z text count v) same (rw (text_is, count_is) (finished_of o end.0 end.1 given v t.0 (had IsDesk views v e has) t.1))
+    subst (λ (z : Opening). IsFinished z text count v) same (rw (text_is, count_is) (finished_of o end.0 end.1 given v t.0 t.1))
 
 pub taken_here : (o p : Opening) (text : List ℕ) (version : ℕ) (shown : List ℕ × ℕ) (given : Option Known) (old new : List Known) → o ≡ p → (text, version) ≡ shown
     → Turned (Takes o given (taken shown.0 shown.1)) old new → Turned (IsTaken p text version) old new
@@ -188,3 +208,10 @@ taken_here o p text version shown given old new same is t =
 pub blank_here : (o p : Opening) (shown : List ℕ × ℕ) (given : Option Known) (old new : List Known) → o ≡ p → Turned (Takes o given (taken shown.0 shown.1)) old new → Turned (Stays p) old new
 blank_here o p shown given old new same t = subst (λ (z : Opening). Turned (Stays z) old new) same
     (turned_as (Takes o given (taken shown.0 shown.1)) (Stays o) old new t (λ v w took. (taken_of o shown.0 shown.1 given v w took).stays))
+
+pub entered_here : (o p : Opening) (t : Entry) (given : Option Known) (old new : List Known) → o ≡ p → is_numbered t ≡ false → Turned (Takes o given t) old new → Turned (IsEntered p t) old new
+entered_here o p t given old new same plain turned = subst (λ (z : Opening). Turned (IsEntered z t) old new) same (turned_as (Takes o given t) (IsEntered o t) old new turned (λ v w took. entered_of o t given v w plain took))
+
+-- any entry without a number
+plain_here : (o p : Opening) (t : Entry) (given : Option Known) (old new : List Known) → o ≡ p → is_numbered t ≡ false → Turned (Takes o given t) old new → Turned (Stays p) old new
+plain_here o p t given old new same plain turned = subst (λ (z : Opening). Turned (Stays z) old new) same (turned_as (Takes o given t) (Stays o) old new turned (λ v w took. stays_took o t given v w plain took))

@@ -1,5 +1,5 @@
 -- What the callers of a shared buffer know, and what their calls do to it.
-use Rattle.std.specs.Prelude.{◌≡◌, ℕ, true, false, nat_lt, List, [], ◌∷◌, ◌++◌, filter, Option, Some, None}
+use Rattle.std.specs.Prelude.{◌≡◌, ℕ, ◌<◌, true, false, nat_lt, List, [], ◌∷◌, ◌++◌, length, slice_index_or, filter, Option, Some, None}
 use mathlib.Core.List.{IsPrefix}
 use Rattle.points.specs.declared.limits.TheConstants.{LAST}
 use Rattle.atomic_table.specs.Seated.{TableId}
@@ -10,10 +10,11 @@ use Rattle.machine.specs.Plain.{plain_reply}
 use Rattle.turn_table.specs.declared.view.Entry as table
 use Rattle.turn_table.specs.declared.view.View.{View}
 use Rattle.turn_table.specs.Meaning.{Meaning, MayFollow}
-use Rattle.turn_table.specs.History.{entry, state_after, IsLegal}
-use Rattle.turn_table.specs.Views.{view, hand, caller}
+use Rattle.turn_table.specs.History.{entry, state_after, IsLegal, AreCalled}
+use Rattle.turn_table.specs.Views.{view, hand, caller, added, Mine}
 use Rattle.turn_table.specs.Tokens.{mine, is_own, numbered_calls, StandsForAll, Knows, IsDesk, IsHand}
 use Rattle.turn_table.specs.Calls.{Has}
+use Rattle.shared_buffer.specs.declared.shared.Hand.{Hand}
 use Rattle.shared_buffer.specs.Entries.{Shared, Entry, called, handed, meaning, Meets, free_number}
 
 -- an entry with the desk number that signs it
@@ -59,6 +60,11 @@ module _ (o : Opening) where
   abbrev pub IsSeatOf : ℕ → Badge Known → Type 0
   IsSeatOf n h = (h.table_id ≡ o.table) × Has (IsHand n) h.views
 
+  -- hands of this buffer, in the order of their numbers from 0 on
+  pub record AreHands (hands : List Hand) : Type 0 where
+    pub numbers : (k : ℕ) (h : Hand) → k < length hands → (slice_index_or hands k h).number ≡ k
+    pub seats : (k : ℕ) (h : Hand) → k < length hands → IsSeatOf k (slice_index_or hands k h).seat
+
   -- A numbered call was made. What the desk has seen begins with what it had seen and ends with this call, which is one more of its own. The reply is the plain machine's
   -- behind all that came before
   pub record Called (c : Command) (r : Reply) (v w : Known) : Type 0 where
@@ -66,12 +72,14 @@ module _ (o : Opening) where
     pub seen : w.seen ≡ (v.seen ++ between) ++ entry (caller v.role) (called c (Some r)) ∷ []
     pub left : nat_lt (behind (v.seen ++ between)).plain.count LAST ≡ true
     pub reply : r ≡ plain_reply o.version (behind (v.seen ++ between)).plain [] [] c
+    pub role : w.role ≡ added rules v.role (entry (caller v.role) (called c (Some r)))
     pub mine : own_calls w ≡ own_calls v ++ entry (caller v.role) (called c (Some r)) ∷ []
     pub informed : IsInformed w
 
-  -- the desk has seen no less than before, and its own calls are those of before
+  -- the desk has seen no less than before, stands for the same desk numbers, and its own calls are those of before
   pub record Stays (v w : Known) : Type 0 where
     pub seen : IsPrefix v.seen w.seen
+    pub role : w.role ≡ v.role
     pub mine : own_calls w ≡ own_calls v
     pub informed : IsInformed w
 
@@ -93,6 +101,13 @@ module _ (o : Opening) where
     pub stays : Stays v w
     pub full : free_number (behind w.seen) ≡ None
 
+  -- so, and what the desk has seen ends with this entry, which stands behind all that it had seen
+  pub record IsEntered (t : Entry) (v w : Known) : Type 0 where
+    pub stays : Stays v w
+    pub before : List Line
+    pub seen : w.seen ≡ before ++ entry (caller v.role) t ∷ []
+    pub begun : IsPrefix v.seen before
+
   -- so, and this text and version are those behind the front: what stands in the history before the snapshot was taken, which begins with all that the desk had seen
   pub record IsTaken (text : List ℕ) (version : ℕ) (v w : Known) : Type 0 where
     pub stays : Stays v w
@@ -102,8 +117,8 @@ module _ (o : Opening) where
     pub text_is : text ≡ (behind front).plain.text
     pub version_is : version ≡ (behind front).plain.version
 
-  -- This text and count are those behind a whole history, which begins with what the desk had seen. It has no more calls of the desk than the desk knew of; and
-  -- no numbered call but the desk's, where every desk was ended into this one
+  -- This text and count are those behind a whole history, which begins with what the desk had seen. It has no more calls of the desk than the desk knew of, under
+  -- each of its desk numbers; and no numbered call but the desk's, where every desk was ended into this one
   pub record IsFinished (text : List ℕ) (count : ℕ) (v : Known) : Type 0 where
     pub log : List Line
     pub begun : IsPrefix v.seen log
@@ -111,4 +126,6 @@ module _ (o : Opening) where
     pub text_is : text ≡ (behind log).plain.text
     pub count_is : count ≡ (behind log).plain.count
     pub own : filter (is_own rules v.role) log ≡ own_calls v
+    pub parts : Mine rules log v.role
+    pub callers : AreCalled rules o.desks log
     pub whole : StandsForAll rules o.desks v → numbered_calls rules log ≡ own_calls v

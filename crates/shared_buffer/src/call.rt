@@ -3,7 +3,7 @@ ghost use Rattle.std.specs.Prelude.{◌≡◌, true};
 ghost use Rattle.shared_buffer.specs.Entries.{is_plain};
 
 use crate::told::{Shown, Told};
-use layers::Reader;
+use layers::{Reader, Shape};
 use machine::Command;
 use points::Units;
 use turn_table::HandSeat;
@@ -24,10 +24,14 @@ pub enum Call {
     Hand,
     /// Give back the hand with this number.
     GiveBack(u32),
-    /// Make a reader of the text.
-    Take,
+    /// Make a reader of the text, and let the hand with this number hold on to it.
+    Take(u32),
     /// Copy the whole text.
     Finish,
+    /// Put the layers of the text together.
+    Squash,
+    /// Tell how large the layers are.
+    Measure,
 }
 
 /// What the buffer answers under the lock.
@@ -45,6 +49,10 @@ pub enum Reply {
     Taken(Reader, u64),
     /// The whole text, and how many calls were numbered.
     Finished(Units, u64),
+    /// How many layers there are, after they were put together.
+    Squashed(u32),
+    /// How large the layers are.
+    Measured(Shape),
     /// The call was done, and tells no more.
     Done,
 }

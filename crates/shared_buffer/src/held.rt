@@ -1,8 +1,8 @@
 //! What lies under the lock: a buffer, and which hands are out.
 ghost use Rattle.std.specs.Prelude.{◌≡◌, ◌≤◌, ◌<◌, ℕ, true, false, None, IfOk, OnErr, nat_lt, slice_index_or};
 ghost use Rattle.points.specs.declared.limits.TheConstants.{MAX_HANDS};
-ghost use Rattle.shared_buffer.specs.Entries.{Shared, is_plain, said, after_called};
-ghost use Rattle.shared_buffer.specs.Calls.{reply_in, given};
+ghost use Rattle.shared_buffer.specs.Entries.{Shared, is_plain, said, after_called, with_out, AreLayers};
+ghost use Rattle.shared_buffer.specs.Calls.{reply_in, given, showing, ending, depth_in, sizes_in};
 
 use crate::call::{Call, Reply};
 use crate::plain::PlainBuffer;
@@ -60,6 +60,60 @@ impl<B: PlainBuffer> Held<B> {
         let reply = self.buffer.play(self.alloc, command)?;
         Ok(Reply::Played(reply))
     }
+
+    // Takes a hand's number back, and lets go of what the hand held on to.
+    fn give_back(&mut self, number: u32)
+        ensures { self.new ≡ with_out self.old number false }
+    {
+        self.buffer.let_go(number);
+        if (number as usize) < MAX_HANDS {
+            self.out[number as usize] = false;
+        }
+    }
+
+    // A reader of the text, which the hand then holds on to, and to nothing older.
+    fn taken(&mut self, number: u32) -> Result<Reply, NoMemory>
+        ensures text { IfOk result (λ r. (showing r).0 ≡ self.old.plain.text) }
+        ensures version { IfOk result (λ r. (showing r).1 ≡ self.old.plain.version) }
+        ensures given { IfOk result (λ r. given r ≡ None) }
+        ensures state { self.new ≡ self.old }
+    {
+        let (reader, version) = self.buffer.reader(self.alloc)?;
+        self.buffer.let_go(number);
+        if (number as usize) < MAX_HANDS {
+            self.buffer.hold(number);
+        }
+        Ok(Reply::Taken(reader, version))
+    }
+
+    // The whole text and the count.
+    fn finished(&self) -> Result<Reply, NoMemory>
+        ensures text { IfOk result (λ r. (ending r).0 ≡ self.now.plain.text) }
+        ensures count { IfOk result (λ r. (ending r).1 ≡ self.now.plain.count) }
+        ensures given { IfOk result (λ r. given r ≡ None) }
+    {
+        let text = self.buffer.units(self.alloc)?;
+        Ok(Reply::Finished(text, self.buffer.count()))
+    }
+
+    // Puts the layers together.
+    fn squashed(&mut self) -> Result<Reply, NoMemory>
+        ensures depth { IfOk result (λ r. depth_in r ≤ 2) }
+        ensures given { IfOk result (λ r. given r ≡ None) }
+        ensures state { self.new ≡ self.old }
+    {
+        let depth = self.buffer.squash(self.alloc)?;
+        Ok(Reply::Squashed(depth))
+    }
+
+    // How large the layers are.
+    fn measured(&self) -> Result<Reply, NoMemory>
+        ensures layers { IfOk result (λ r. AreLayers (sizes_in r)) }
+        ensures given { IfOk result (λ r. given r ≡ None) }
+    {
+        let shape = self.buffer.shape(self.alloc)?;
+        Ok(Reply::Measured(shape))
+    }
 }
 
 impl<B: PlainBuffer + Send> Object for Held<B> {
@@ -110,19 +164,13 @@ impl<B: PlainBuffer + Send> Object for Held<B> {
                 }
             }
             Call::GiveBack(number) => {
-                if (number as usize) < MAX_HANDS {
-                    self.out[number as usize] = false;
-                }
+                self.give_back(number);
                 Ok(Reply::Done)
             }
-            Call::Take => match self.buffer.reader(self.alloc) {
-                Ok((reader, version)) => Ok(Reply::Taken(reader, version)),
-                Err(NoMemory) => Err(Call::Take),
-            },
-            Call::Finish => match self.buffer.units(self.alloc) {
-                Ok(text) => Ok(Reply::Finished(text, self.buffer.count())),
-                Err(NoMemory) => Err(Call::Finish),
-            },
+            Call::Take(number) => self.taken(number).map_err(|_| Call::Take(number)),
+            Call::Finish => self.finished().map_err(|_| Call::Finish),
+            Call::Squash => self.squashed().map_err(|_| Call::Squash),
+            Call::Measure => self.measured().map_err(|_| Call::Measure),
         }
     }
 }

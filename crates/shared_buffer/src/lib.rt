@@ -15,5 +15,7 @@ mod told;
 pub use call::{Call, Numbered, Reply};
 pub use held::Held;
 pub use plain::PlainBuffer;
-pub use shared::{Desk, Finished, Hand, HandRefusal, Refusal, SharedBuffer, Snapshot, Started};
+pub use shared::{
+    Desk, Finished, Hand, HandRefusal, Refusal, SharedBuffer, Snapshot, Squash, Started,
+};
 pub use told::{Shown, Told};

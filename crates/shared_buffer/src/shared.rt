@@ -1,21 +1,22 @@
 //! The shared buffer and its calls.
-ghost use Rattle.std.specs.Prelude.{◌≡◌, ℕ, ◌≤◌, true, IfOk, IfErr, IfSome, option_map, [], ◌∷◌};
+ghost use Rattle.std.specs.Prelude.{◌≡◌, ℕ, ◌≤◌, ◌<◌, true, false, nat_lt, IfOk, IfErr, IfSome, option_map, [], ◌∷◌, length, map, vec_len, vec_capacity, slice_index_or};
 ghost use Rattle.turn_table.specs.declared.view.View.{View};
 ghost use Rattle.turn_table.specs.Meaning.{MayFollow};
-ghost use Rattle.turn_table.specs.Openings.{AreDealt, new_desk};
+ghost use Rattle.points.specs.declared.limits.TheConstants.{MAX_HANDS};
+ghost use Rattle.turn_table.specs.Openings.{AreDealt, new_desk, first_hand};
 ghost use Rattle.turn_table.specs.Calls.{Turned, Joined};
-ghost use Rattle.shared_buffer.specs.Entries.{Entry, Shared, is_plain, Meets};
+ghost use Rattle.shared_buffer.specs.Entries.{Entry, Shared, is_plain, Meets, squashed, shaped, AreLayers};
 ghost use Rattle.turn_table.specs.Given.{seat_in};
-ghost use Rattle.shared_buffer.specs.Calls.{reply_in, hand_number, given, ending, showing};
-ghost use Rattle.shared_buffer.specs.Tokens.{IsDeskOf, IsSeatOf, Called, Stays, IsSpent, IsHanded, IsFull, IsTaken, IsFinished, Known, rules};
+ghost use Rattle.shared_buffer.specs.Calls.{reply_in, hand_number, given, ending, showing, depth_in, sizes_in};
+ghost use Rattle.shared_buffer.specs.Tokens.{IsDeskOf, IsSeatOf, Called, Stays, IsSpent, IsHanded, IsFull, IsEntered, IsTaken, IsFinished, AreHands, Known, rules};
 
 use crate::call::{Call, Numbered, Reply};
 use crate::held::Held;
 use crate::plain::PlainBuffer;
 use crate::told::{Shown, Told};
-use layers::Reader;
+use layers::{Reader, Shape};
 use machine::Command;
-use points::{NoMemory, Units};
+use points::{MAX_HANDS, NoMemory, Units};
 use std::alloc::Global;
 use std::marker::Model;
 use std::sync::Wait;
@@ -76,6 +77,13 @@ pub enum HandRefusal {
     NoMemory,
 }
 
+/// What a squash did.
+#[derive(Clone, Copy, Debug, PartialEq, Eq)]
+pub enum Squash {
+    /// There are so many layers now, the base among them: 1 or 2.
+    Done { depth: u32 },
+}
+
 /// A buffer that many sessions share. Contracts see what it began with.
 #[derive(Drop)]
 pub struct SharedBuffer<B: PlainBuffer + Send> {
@@ -84,7 +92,7 @@ pub struct SharedBuffer<B: PlainBuffer + Send> {
 
 impl<B: PlainBuffer + Send> Model for SharedBuffer<B> {
     ghost use Rattle.turn_table.specs.Given.{seat_in};
-    ghost use Rattle.shared_buffer.specs.Calls.{reply_in, hand_number, given, ending, showing};
+    ghost use Rattle.shared_buffer.specs.Calls.{reply_in, hand_number, given, ending, showing, depth_in, sizes_in};
     ghost use Rattle.shared_buffer.specs.Tokens.{Opening};
 
     ghost Value = { Opening };
@@ -112,6 +120,7 @@ impl<B: PlainBuffer + Send> SharedBuffer<B> {
         requires fit { B.IsFit buffer }
         requires desks { (1 ≤ desks) × (desks ≤ 64) }
         ensures start { IfOk result (λ s. (s.buffer.start.plain ≡ B.state buffer) × (s.buffer.desks ≡ desks) × (s.buffer.version ≡ B.version)) }
+        ensures out { IfOk result (λ s. (n : ℕ) → slice_index_or s.buffer.start.out n false ≡ false) }
         ensures desks { IfOk result (λ s. AreDealt s.buffer.table new_desk desks s.desks.items) }
     {
         match TurnTable::new(alloc, Held::new(alloc, buffer, 0), desks, 0) {
@@ -126,6 +135,43 @@ impl<B: PlainBuffer + Send> SharedBuffer<B> {
                 desks,
             }),
             Err(_) => Err(NoMemory),
+        }
+    }
+
+    /// The same with so many hands, numbered from 0. No other hand is out.
+    pub fn start_with_hands(
+        alloc: Global,
+        buffer: B,
+        desks: u32,
+        hands: u32,
+    ) -> Result<(Started<B>, Vec<Hand>), NoMemory>
+        requires fit { B.IsFit buffer }
+        requires desks { (1 ≤ desks) × (desks ≤ 64) }
+        requires hands { hands ≤ MAX_HANDS }
+        ensures start { IfOk result (λ s. (s.0.buffer.start.plain ≡ B.state buffer) × (s.0.buffer.desks ≡ desks) × (s.0.buffer.version ≡ B.version)) }
+        ensures out { IfOk result (λ s. (n : ℕ) → slice_index_or s.0.buffer.start.out n false ≡ nat_lt n hands) }
+        ensures desks { IfOk result (λ s. AreDealt s.0.buffer.table new_desk desks s.0.desks.items) }
+        ensures hands { IfOk result (λ s. (length s.1.items ≡ hands) × AreHands s.0.buffer s.1.items) }
+    {
+        let Ok(room) = Vec::with_capacity(alloc, hands as usize) else {
+            return Err(NoMemory);
+        };
+        match TurnTable::new(alloc, Held::new(alloc, buffer, hands), desks, hands) {
+            Ok(
+                Tokens {
+                    table,
+                    desks,
+                    hands,
+                },
+            ) => {
+                let buffer = SharedBuffer { table };
+                let hands = numbered(&buffer, hands, room);
+                Ok((Started { buffer, desks }, hands))
+            }
+            Err(_) => {
+                room.destroy_empty();
+                Err(NoMemory)
+            }
         }
     }
 
@@ -186,7 +232,7 @@ impl<B: PlainBuffer + Send> SharedBuffer<B> {
         ensures hand { IfOk result (λ s. s.hand ≡ hand) }
         ensures err { IfErr result (λ h. (h ≡ hand) × Turned (Stays self.now) desk.old.views desk.new.views) }
     {
-        match self.table.with(rt, desk, Call::Take) {
+        match self.table.with(rt, desk, Call::Take(hand.number)) {
             Ok(reply) => match shown(reply) {
                 Some((reader, version)) => Ok(Snapshot {
                     hand,
@@ -217,6 +263,40 @@ impl<B: PlainBuffer + Send> SharedBuffer<B> {
         } = snapshot;
         drop(reader);
         hand
+    }
+
+    /// Puts the layers of the text together, so that at most two are left: the base, and one with all changes since. No call can
+    /// tell the difference but `shape`.
+    pub fn squash<R: Wait>(&self, rt: &R, desk: &mut Desk) -> Result<Squash, NoMemory>
+        requires desk { IsDeskOf self.now desk.old }
+        ensures desk { IsDeskOf self.now desk.new }
+        ensures ok { IfOk result (λ s. (depth : ℕ) → s ≡ Squash.Done depth → (depth ≤ 2) × Turned (IsEntered self.now (squashed depth)) desk.old.views desk.new.views) }
+        ensures err { IfErr result (λ _. Turned (Stays self.now) desk.old.views desk.new.views) }
+    {
+        match self.table.with(rt, desk, Call::Squash) {
+            Ok(reply) => match flattened(&reply) {
+                Some(depth) => Ok(Squash::Done { depth }),
+                None => Err(NoMemory),
+            },
+            Err(_) => Err(NoMemory),
+        }
+    }
+
+    /// How large the layers of the text are, from the base to the newest.
+    pub fn shape<R: Wait>(&self, rt: &R, desk: &mut Desk) -> Result<Shape, NoMemory>
+        requires desk { IsDeskOf self.now desk.old }
+        ensures desk { IsDeskOf self.now desk.new }
+        ensures layers { IfOk result (λ shape. AreLayers shape) }
+        ensures ok { IfOk result (λ shape. Turned (IsEntered self.now (shaped shape)) desk.old.views desk.new.views) }
+        ensures err { IfErr result (λ _. Turned (Stays self.now) desk.old.views desk.new.views) }
+    {
+        match self.table.with(rt, desk, Call::Measure) {
+            Ok(reply) => match measured(reply) {
+                Some(shape) => Ok(shape),
+                None => Err(NoMemory),
+            },
+            Err(_) => Err(NoMemory),
+        }
     }
 
     /// Ends a desk into another, which then stands for the desk numbers of both. It waits for nobody.
@@ -290,4 +370,45 @@ fn made(reply: Reply) -> Option<Hand>
         Reply::Hand(seat, number) => Some(Hand { seat, number }),
         _ => None,
     }
+}
+
+// How many layers there are, in a reply that tells it.
+fn flattened(reply: &Reply) -> Option<u32>
+    ensures { IfSome result (λ depth. depth ≡ depth_in reply.now) }
+{
+    match reply {
+        Reply::Squashed(depth) => Some(*depth),
+        _ => None,
+    }
+}
+
+// The sizes of layers in a reply that tells them.
+fn measured(reply: Reply) -> Option<Shape>
+    ensures { IfSome result (λ shape. shape ≡ sizes_in reply) }
+{
+    match reply {
+        Reply::Measured(shape) => Some(shape),
+        _ => None,
+    }
+}
+
+// The hands of a buffer's first seats, in the order of their numbers.
+fn numbered<B: PlainBuffer + Send>(
+    buffer: &SharedBuffer<B>,
+    seats: Vec<HandSeat<Told, Shown>>,
+    room: Vec<Hand>,
+) -> Vec<Hand>
+    requires seats { AreDealt buffer.now.table first_hand (vec_len seats) seats.items }
+    requires few { vec_len seats ≤ MAX_HANDS }
+    requires room { (room.items ≡ []) × (vec_len seats ≤ vec_capacity room) }
+    ensures len { vec_len result ≡ vec_len seats }
+    ensures hands { AreHands buffer.now result.items }
+{
+    let _ = buffer;
+    let mut hands = room;
+    for seat in seats {
+        let number = hands.len() as u32;
+        hands.push_reserved(Hand { seat, number });
+    }
+    hands
 }
