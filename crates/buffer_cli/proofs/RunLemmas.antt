@@ -1,66 +1,45 @@
 -- A run of the plain machine, command by command.
-use Rattle.std.proofs.Common.{◌≡◌, ℕ, zero, suc, ◌+◌, ◌<◌, ◌≤◌, List, [], ◌∷◌, ◌++◌, length, drop, get_or, Bool, true, false, cond, Option, Some, None, refl, sym, subst, ap, ◌∙◌, arith, append_assoc, add-one, drop-cons, zero-add}
-use Rattle.std.specs.Prelude.{◌==◌, ◌||◌, ◌&&◌, not, find, is_some}
-use Rattle.std.specs.List.{AllByRecursion, list_any, list_all, filter}
+use Rattle.std.proofs.Common.{◌≡◌, ℕ, zero, suc, ◌+◌, ◌<◌, ◌≤◌, List, [], ◌∷◌, ◌++◌, length, drop, get_or, Bool, true, false, cond, Option, Some, None, refl, sym, subst, ap, ◌∙◌, arith, append_assoc, append-nil, add-one, drop-cons, zero-add}
+use Rattle.std.specs.Prelude.{◌==◌, ◌||◌, ◌&&◌, not, find, is_some, option_map}
+use Rattle.std.specs.List.{AllByRecursion, list_any, filter}
 use Rattle.std.proofs.Math.ListN.{drop_of_length-le}
-use Rattle.std.proofs.lemmas.List.{length-drop}
+use Rattle.std.proofs.lemmas.List.{length-drop, drop_at}
 use Rattle.std.proofs.lemmas.List.Sums.{sum_by-cons}
 use Rattle.std.proofs.lemmas.Bool.{false≢true}
+use Rattle.std.proofs.lemmas.Option.{none-some, same_Some}
 use Rattle.std.proofs.lemmas.Bool.Decides.{nat_tests}
-use Rattle.points.specs.Text.{utf16_of, text_of}
+use Rattle.points.specs.Text.{text_of, IsWellFormed}
 use Rattle.machine.specs.declared.command.Command.{Command}
 use Rattle.machine.specs.declared.command.Command.TheVariants as command
 use Rattle.machine.specs.declared.command.Script.{Script}
-use Rattle.machine.specs.declared.reads.Read.{Read}
-use Rattle.machine.specs.declared.reads.Read.TheVariants as read
-use Rattle.machine.specs.declared.reads.ReadAnswer.{ReadAnswer}
 use Rattle.machine.specs.declared.reply.Reply.{Reply}
 use Rattle.machine.specs.declared.reply.Reply.TheVariants as reply
-use Rattle.machine.specs.Machine.{State, Call, step, after, opened, edit, look, undo, redo, add_mark, remove_mark, set_exclusive, mark_range, find_marks, compare_marks, watch, unwatch}
-use Rattle.machine.specs.Answers.{call_of, read_answer}
-use Rattle.machine.specs.Lawful.{IsLawful, patterns_in}
-use Rattle.machine.specs.Plain.{Kept, kept_text, text_kept, after_call, kept_after, live_after, is_live, are_live, calls_of, plain_answer, plain_answers, plain_reply, plain_replies}
+use Rattle.machine.specs.Machine.{State, Call, after, opened}
+use Rattle.machine.specs.Answers.{call_of, Matches}
+use Rattle.machine.specs.Lawful.{IsLawful, patterns_in, patterns_of}
+use Rattle.machine.specs.Plain.{Kept, kept_text, text_kept, after_call, kept_after, live_after, is_live, are_live, with_call, calls_of, plain_answers, plain_reply, plain_replies}
 use Rattle.machine.proofs.History.{after_counts}
 use Rattle.machine.proofs.OneSession.{plain_is_lawful}
 use Rattle.machine.proofs.StepLemmas.{step_counts}
-use Rattle.buffer.specs.Reads.{is_own_read, has_number, without_first}
+use Rattle.buffer.specs.Reads.{has_number, without_first}
 use Rattle.buffer.specs.Sound.{IsSound}
-use Rattle.buffer.proofs.SoundLemmas.{sound_step}
 use Rattle.script.specs.Limits.{is_watch}
-use Rattle.buffer_cli.specs.Answered.{answered, held_after, is_answered, is_held, watches_in}
-
-drop_none : {X : Type 0} (n : ℕ) (xs : List X) → xs ≡ [] → drop n xs ≡ []
-drop_none n xs none = rw none (drop_of_length-le [] {i = n} (omega arith))
+use Rattle.buffer_cli.specs.Answered.{held_after, is_answered, is_held, watches_in}
+use Rattle.buffer_cli.specs.Hits.{Agree, IsReply, AreReplies}
+use Rattle.buffer_cli.proofs.HitLemmas.{agree-append, found_left, answers_first}
+use Rattle.buffer_cli.proofs.ToldLemmas.{lawful_by}
 
 -- what one command does to a run
-record IsNext (s : State) (kept : List Kept) (c : Command) (cs : List Command) : Type 0 where
+record IsNext (s : State) (c : Command) (cs : List Command) : Type 0 where
   counts : (after_call s (call_of c)).count ≤ suc s.count
-  replies : plain_replies 1 [] s kept (c ∷ cs) ≡ plain_reply 1 s kept [] c ∷ plain_replies 1 [] (after_call s (call_of c)) (kept_after s c kept) cs
   later : after s (calls_of (c ∷ cs)) ≡ after (after_call s (call_of c)) (calls_of cs)
-  sound : IsSound s → IsSound (after_call s (call_of c))
 
-one_more : (s : State) (call : Call) → (step s call).0.count ≤ suc s.count
-one_more s call = omega (arith, step_counts s call)
+next_by : (s : State) (o : Option Call) (calls : List Call) → ((after_call s o).count ≤ suc s.count) × (after s (with_call o calls) ≡ after (after_call s o) calls)
+next_by s None calls = (omega arith, refl)
+next_by s (Some call) calls = (omega (arith, step_counts s call), refl)
 
-next_of : (s : State) (kept : List Kept) (c : Command) (cs : List Command) → is_answered c ≡ true → IsNext s kept c cs
-next_of s kept (command.Edit range new) cs is = record { counts = one_more s (edit (range, utf16_of new)); replies = refl; later = refl; sound = sound_step s (edit (range, utf16_of new)) refl }
-next_of s kept (command.Text range limit) cs is = record { counts = one_more s (look range limit); replies = refl; later = refl; sound = sound_step s (look range limit) refl }
-next_of s kept command.Undo cs is = record { counts = one_more s undo; replies = refl; later = refl; sound = sound_step s undo refl }
-next_of s kept command.Redo cs is = record { counts = one_more s redo; replies = refl; later = refl; sound = sound_step s redo refl }
-next_of s kept (command.Mark id range exclusive) cs is = record { counts = one_more s (add_mark id range exclusive); replies = refl; later = refl; sound = sound_step s (add_mark id range exclusive) refl }
-next_of s kept (command.Unmark id) cs is = record { counts = one_more s (remove_mark id); replies = refl; later = refl; sound = sound_step s (remove_mark id) refl }
-next_of s kept (command.Exclusive id value) cs is = record { counts = one_more s (set_exclusive id value); replies = refl; later = refl; sound = sound_step s (set_exclusive id value) refl }
-next_of s kept (command.Range id) cs is = record { counts = one_more s (mark_range id); replies = refl; later = refl; sound = sound_step s (mark_range id) refl }
-next_of s kept (command.Marks how range) cs is = record { counts = one_more s (find_marks how range); replies = refl; later = refl; sound = sound_step s (find_marks how range) refl }
-next_of s kept (command.Compare a b) cs is = record { counts = one_more s (compare_marks a b); replies = refl; later = refl; sound = sound_step s (compare_marks a b) refl }
-next_of s kept (command.Watch id) cs is = record { counts = one_more s (watch id); replies = refl; later = refl; sound = sound_step s (watch id) refl }
-next_of s kept (command.Unwatch id) cs is = record { counts = one_more s (unwatch id); replies = refl; later = refl; sound = sound_step s (unwatch id) refl }
-next_of s kept (command.Take k) cs is = record { counts = omega arith; replies = refl; later = refl; sound = λ h. h }
-next_of s kept (command.Read k reads) cs is =
-    record { counts = omega arith; replies = ap (λ told. plain_reply 1 s kept [] (command.Read k reads) ∷ plain_replies 1 told s kept cs) (drop_none (patterns_in (command.Read k reads)) [] refl); later = refl; sound = λ h. h }
-next_of s kept (command.Release k) cs is = record { counts = omega arith; replies = refl; later = refl; sound = λ h. h }
-next_of s kept command.Squash cs is = record { counts = omega arith; replies = refl; later = refl; sound = λ h. h }
-next_of s kept _ cs is = absurd (false≢true is)
+next_of : (s : State) (c : Command) (cs : List Command) → IsNext s c cs
+next_of s c cs = let by = next_by s (call_of c) (calls_of cs) in record { counts = by.0; later = by.1 }
 
 -- what holds of each command holds of the one with index i
 pub answered_at : (commands : List Command) (i : ℕ) (c : Command) → i < length commands → c ≡ get_or commands i c → AllByRecursion (λ d. is_answered d ≡ true) commands → is_answered c ≡ true
@@ -154,103 +133,176 @@ after_kept s (command.Release k) live held kept is all = ended_kept k live held 
 after_kept s (command.Send k reads) live held kept is all = absurd (false≢true is)
 after_kept s _ live held kept is all = all
 
--- a command on live snapshots is answered from them as from the texts that were taken
-same_reply : (s : State) (c : Command) (live : List ℕ) (held kept : List Kept) → is_answered c ≡ true → is_live live c ≡ true → AreKept live held kept → plain_reply 1 s held [] c ≡ plain_reply 1 s kept [] c
-same_reply s (command.Read k reads) live held kept is at all = ap (λ t. reply.Answered (plain_answers t [] reads)) (all k at).same
-same_reply s (command.Send k reads) live held kept is at all = absurd (false≢true is)
-same_reply s _ live held kept is at all = refl
+-- a command on live snapshots is answered from them as from the texts that were taken, whatever is found later
+same_reply : (s : State) (c : Command) (live : List ℕ) (held kept : List Kept) (found later : List (Option Matches)) → is_answered c ≡ true → is_live live c ≡ true → AreKept live held kept → length found ≡ patterns_in c
+    → plain_reply 1 s held found c ≡ plain_reply 1 s kept (found ++ later) c
+same_reply s (command.Read k reads) live held kept found later is at all many =
+    ap (λ t. reply.Answered (plain_answers t found reads)) (all k at).same ∙ ap reply.Answered (sym (answers_first (kept_text k kept) found later reads many))
+same_reply s (command.Send k reads) live held kept found later is at all many = absurd (false≢true is)
+same_reply s _ live held kept found later is at all many = refl
 
 held_by : (c : Command) (live : List ℕ) (held kept : List Kept) → is_live live c ≡ true → AreKept live held kept → is_held held c ≡ true
 held_by (command.Read k reads) live held kept at all = (all k at).there
 held_by _ live held kept at all = refl
 
-both : (a b : Bool) → (a && b) ≡ true → (a ≡ true) × (b ≡ true)
+pub both : (a b : Bool) → (a && b) ≡ true → (a ≡ true) × (b ≡ true)
 both true b h = (refl, h)
 both false b h = absurd (false≢true h)
 
+-- the texts of live snapshots are well-formed
+abbrev pub AreWhole : List Kept → Type 0
+AreWhole held = AllByRecursion (λ (k : Kept). IsWellFormed k.text) held
+
+whole_without : (n : ℕ) (k : Kept) (ks : List Kept) (b : Bool) → AreWhole (k ∷ ks) → AreWhole (without_first n ks) → AreWhole (cond b ks (k ∷ without_first n ks))
+whole_without n k ks true all rest = all.1
+whole_without n k ks false all rest = (all.0, rest)
+
+whole_ended : (n : ℕ) (held : List Kept) → AreWhole held → AreWhole (without_first n held)
+whole_ended n [] all = all
+whole_ended n (k ∷ ks) all = whole_without n k ks (has_number n k) all (whole_ended n ks all.1)
+
+whole_after : (s : State) (c : Command) (held : List Kept) → IsWellFormed s.text → AreWhole held → AreWhole (held_after s c held)
+whole_after s (command.Take k) held text all = (text, all)
+whole_after s (command.Release k) held text all = whole_ended k held all
+whole_after s _ held text all = all
+
+whole_by : (n : ℕ) (k : Kept) (ks : List Kept) (b : Bool) (t : List ℕ) → AreWhole (k ∷ ks) → (Some t ≡ option_map (λ (x : Kept). x.text) (find (has_number n) ks) → IsWellFormed t) → Some t ≡ option_map (λ (x : Kept). x.text) (cond b (Some k) (find (has_number n) ks)) → IsWellFormed t
+whole_by n k ks true t all rest is = subst IsWellFormed (sym (same_Some t k.text is)) all.0
+whole_by n k ks false t all rest is = rest is
+
+-- so is the text of one that is found
+pub whole_found : (n : ℕ) (held : List Kept) (t : List ℕ) → AreWhole held → Some t ≡ option_map (λ (x : Kept). x.text) (find (has_number n) held) → IsWellFormed t
+whole_found n [] t all is = absurd (none-some t (sym is))
+whole_found n (k ∷ ks) t all is = whole_by n k ks (has_number n k) t all (whole_found n ks t all.1) is
+
 -- ---- the run
 
--- the first i commands were answered, and the rest gives what all give
-pub record RunsSoFar (first now : State) (held : List Kept) (left : ℕ) (done : List Reply) (commands : List Command) (i : ℕ) : Type 0 where
+-- the first i commands were answered, and the rest gives what all give; `told` is told of the patterns that are left of `all`
+pub record RunsSoFar (first now : State) (held : List Kept) (all told : List (Option Matches)) (left : ℕ) (done : List Reply) (commands : List Command) (i : ℕ) : Type 0 where
   pub kept : List Kept
   pub live : List ℕ
   pub snapshots : AreKept live held kept
+  pub whole : AreWhole held
   pub turns : are_live live (drop i commands) ≡ true
   pub watchers : watches_in (drop i commands) ≤ left
-  pub replied : done ++ plain_replies 1 [] now kept (drop i commands) ≡ plain_replies 1 [] first [] commands
+  pub matchers : length told ≡ patterns_of (drop i commands)
+  pub used : List (Option Matches)
+  pub found : List (Option Matches)
+  pub split : all ≡ used ++ told
+  pub agree : Agree used found
+  pub replied : (later : List (Option Matches)) → done ++ plain_replies 1 later now kept (drop i commands) ≡ plain_replies 1 (found ++ later) first [] commands
   pub reached : after now (calls_of (drop i commands)) ≡ after first (calls_of commands)
   pub counted : now.count ≤ first.count + i
   pub sound : IsSound now
 
-pub runs_first : (first : State) (held : List Kept) (left : ℕ) (commands : List Command) → are_live [] commands ≡ true → watches_in commands ≤ left → IsSound first → RunsSoFar first first held left [] commands 0
-runs_first first held left commands turns watchers sound =
-    record { kept = []; live = []; snapshots = none_kept held []; turns = turns; watchers = watchers; replied = refl; reached = refl; counted = omega arith; sound = sound }
+pub runs_first : (first : State) (held : List Kept) (all : List (Option Matches)) (left : ℕ) (commands : List Command) → are_live [] commands ≡ true → AreWhole held → watches_in commands ≤ left → length all ≡ patterns_of commands → IsSound first
+    → RunsSoFar first first held all all left [] commands 0
+runs_first first held all left commands turns whole watchers matchers sound = record {
+  kept = [];
+  live = [];
+  snapshots = none_kept held [];
+  whole = whole;
+  turns = turns;
+  watchers = watchers;
+  matchers = matchers;
+  used = [];
+  found = [];
+  split = refl;
+  agree = tt;
+  replied = λ later. refl;
+  reached = refl;
+  counted = omega arith;
+  sound = sound;
+}
 
--- the next command reads a live snapshot if any, and finds its watcher
-pub record IsReady (held : List Kept) (left : ℕ) (c : Command) : Type 0 where
+-- the next command reads a live snapshot if any, and finds its watcher and its matchers
+pub record IsReady (held : List Kept) (told : List (Option Matches)) (left : ℕ) (c : Command) : Type 0 where
   pub there : is_held held c ≡ true
   pub watcher : watches_in (c ∷ []) ≤ left
+  pub matchers : patterns_in c ≤ length told
 
 pub watches_first : (c : Command) (cs : List Command) → watches_in (c ∷ cs) ≡ watches_in (c ∷ []) + watches_in cs
 watches_first c cs = omega (arith, sum_by-cons (λ (d : Command). cond (is_watch d) 1 0) c cs, sum_by-cons (λ (d : Command). cond (is_watch d) 1 0) c [])
 
-pub ready : (first now : State) (held : List Kept) (left : ℕ) (done : List Reply) (commands : List Command) (i : ℕ) (c : Command) → i < length commands → c ≡ get_or commands i c
-    → RunsSoFar first now held left done commands i → IsReady held left c
-ready first now held left done commands i c within at so_far =
+pub ready : (first now : State) (held : List Kept) (all told : List (Option Matches)) (left : ℕ) (done : List Reply) (commands : List Command) (i : ℕ) (c : Command) → i < length commands → c ≡ get_or commands i c
+    → RunsSoFar first now held all told left done commands i → IsReady held told left c
+ready first now held all told left done commands i c within at so_far =
     let rest = rest_at commands i c within at in
     let turns : (is_live so_far.live c && are_live (live_after c so_far.live) (drop (i + 1) commands)) ≡ true = ap (λ (cs : List Command). are_live so_far.live cs) (sym rest) ∙ so_far.turns in
     let count : watches_in (c ∷ drop (i + 1) commands) ≤ left = subst (λ (cs : List Command). watches_in cs ≤ left) rest so_far.watchers in
-    record { there = held_by c so_far.live held so_far.kept (both _ _ turns).0 so_far.snapshots; watcher = omega (arith, count, watches_first c (drop (i + 1) commands)) }
+    let many : length told ≡ patterns_of (c ∷ drop (i + 1) commands) = so_far.matchers ∙ ap patterns_of rest in
+    record {
+      there = held_by c so_far.live held so_far.kept (both _ _ turns).0 so_far.snapshots;
+      watcher = omega (arith, count, watches_first c (drop (i + 1) commands));
+      matchers = omega (arith, many, sum_by-cons patterns_in c (drop (i + 1) commands));
+    }
 
 -- one more command was answered
-pub runs_more : (first now next : State) (held then : List Kept) (left less : ℕ) (done : List Reply) (commands : List Command) (i : ℕ) (c : Command) (reply : Reply) → i < length commands → c ≡ get_or commands i c
-    → is_answered c ≡ true → (next, reply) ≡ answered now held c → then ≡ held_after now c held → less + watches_in (c ∷ []) ≡ left
-    → RunsSoFar first now held left done commands i → RunsSoFar first next then less (done ++ reply ∷ []) commands (i + 1)
-runs_more first now next held then left less done commands i c reply within at built is opens watches so_far =
+pub runs_more : (first now next : State) (held then : List Kept) (all told rest : List (Option Matches)) (left less : ℕ) (done : List Reply) (commands : List Command) (i : ℕ) (c : Command) (reply : Reply) → i < length commands → c ≡ get_or commands i c
+    → is_answered c ≡ true → IsReply now held told rest c next reply → IsSound next → then ≡ held_after now c held → less + watches_in (c ∷ []) ≡ left
+    → RunsSoFar first now held all told left done commands i → RunsSoFar first next then all rest less (done ++ reply ∷ []) commands (i + 1)
+runs_more first now next held then all told rest left less done commands i c reply within at built is sound opens watches so_far =
     let cs : List Command = drop (i + 1) commands in
     let kept : List Kept = so_far.kept in
-    let step : IsNext now kept c cs = next_of now kept c cs built in
-    let rest : drop i commands ≡ c ∷ cs = rest_at commands i c within at in
-    let turns = both _ _ (ap (λ (cs : List Command). are_live so_far.live cs) (sym rest) ∙ so_far.turns) in
-    let count : watches_in (c ∷ cs) ≤ left = subst (λ (cs : List Command). watches_in cs ≤ left) rest so_far.watchers in
-    let reached : next ≡ after_call now (call_of c) = ap (λ (p : State × Reply). p.0) is in
-    let replied : reply ≡ plain_reply 1 now kept [] c = ap (λ (p : State × Reply). p.1) is ∙ same_reply now c so_far.live held kept built turns.0 so_far.snapshots in
-    let replies : done ++ (plain_reply 1 now kept [] c ∷ plain_replies 1 [] (after_call now (call_of c)) (kept_after now c kept) cs) ≡ plain_replies 1 [] first [] commands =
-    ap (λ (rs : List Reply). done ++ rs) (sym step.replies) ∙ (ap (λ (cs : List Command). done ++ plain_replies 1 [] now kept cs) (sym rest) ∙ so_far.replied) in
+    let step : IsNext now c cs = next_of now c cs in
+    let rest_is : drop i commands ≡ c ∷ cs = rest_at commands i c within at in
+    let turns = both _ _ (ap (λ (cs : List Command). are_live so_far.live cs) (sym rest_is) ∙ so_far.turns) in
+    let count : watches_in (c ∷ cs) ≤ left = subst (λ (cs : List Command). watches_in cs ≤ left) rest_is so_far.watchers in
+    let many : length told ≡ patterns_of (c ∷ cs) = so_far.matchers ∙ ap patterns_of rest_is in
+    let reached : next ≡ after_call now (call_of c) = ap (λ (p : State × Reply). p.0) is.is in
     let last : after (after_call now (call_of c)) (calls_of cs) ≡ after first (calls_of commands) =
-    sym step.later ∙ (ap (λ (cs : List Command). after now (calls_of cs)) (sym rest) ∙ so_far.reached) in
+    sym step.later ∙ (ap (λ (cs : List Command). after now (calls_of cs)) (sym rest_is) ∙ so_far.reached) in
     let counted : next.count ≤ suc now.count = subst (λ (s : State). s.count ≤ suc now.count) (sym reached) step.counts in
     record {
       kept = kept_after now c kept;
       live = live_after c so_far.live;
       snapshots = rw opens (after_kept now c so_far.live held kept built so_far.snapshots);
+      whole = rw opens (whole_after now c held so_far.sound.whole so_far.whole);
       turns = turns.1;
       watchers = omega (arith, count, watches_first c cs, watches);
-      replied = append_assoc done (reply ∷ []) (plain_replies 1 [] next (kept_after now c kept) cs) ∙ (rw (replied, reached) replies);
+      matchers = omega (arith, many, sum_by-cons patterns_in c cs, found_left (patterns_in c) told rest is.found is.hits);
+      used = so_far.used ++ is.hits.told;
+      found = so_far.found ++ is.found;
+      split = so_far.split ∙ (ap (λ (ms : List (Option Matches)). so_far.used ++ ms) is.hits.are ∙ sym (append_assoc so_far.used is.hits.told rest));
+      agree = agree-append so_far.used so_far.found is.hits.told is.found so_far.agree is.hits.agree;
+      replied = λ later. replies_more first now next kept so_far.found is.found later done commands cs c reply (drop i commands) rest_is is.hits.many reached
+          (ap (λ (p : State × Reply). p.1) is.is ∙ same_reply now c so_far.live held kept is.found later built turns.0 so_far.snapshots is.hits.many)
+          (so_far.replied (is.found ++ later));
       reached = rw reached last;
       counted = omega (arith, so_far.counted, counted);
-      sound = rw reached (step.sound so_far.sound);
+      sound = sound;
     }
+  where
+    replies_more : (first now next : State) (kept : List Kept) (found more later : List (Option Matches)) (done : List Reply) (commands cs : List Command) (c : Command) (reply : Reply) (rest : List Command) → rest ≡ c ∷ cs → length more ≡ patterns_in c
+        → next ≡ after_call now (call_of c) → reply ≡ plain_reply 1 now kept (more ++ later) c
+        → done ++ plain_replies 1 (more ++ later) now kept rest ≡ plain_replies 1 (found ++ (more ++ later)) first [] commands
+        → (done ++ reply ∷ []) ++ plain_replies 1 later next (kept_after now c kept) cs ≡ plain_replies 1 ((found ++ more) ++ later) first [] commands
+    replies_more first now next kept found more later done commands cs c reply rest rest_is many reached replied so_far =
+        let left : drop (patterns_in c) (more ++ later) ≡ later = drop_at more later (patterns_in c) many in
+        append_assoc done (reply ∷ []) (plain_replies 1 later next (kept_after now c kept) cs)
+        ∙ (rw (replied, reached) (ap (λ (ms : List (Option Matches)). done ++ (plain_reply 1 now kept (more ++ later) c ∷ plain_replies 1 ms (after_call now (call_of c)) (kept_after now c kept) cs)) (sym left))
+        ∙ (ap (λ (cs : List Command). done ++ plain_replies 1 (more ++ later) now kept cs) (sym rest_is)
+        ∙ (so_far ∙ ap (λ (ms : List (Option Matches)). plain_replies 1 ms first [] commands) (sym (append_assoc found more later)))))
 
--- ---- reads
+nothing_left : (xs : List (Option Matches)) → length xs ≡ 0 → xs ≡ []
+nothing_left [] none = refl
+nothing_left (x ∷ xs) none = absurd (omega (arith, none))
 
-answers_more : (t : List ℕ) (r : Read) (rs : List Read) (a : ReadAnswer) → is_own_read r ≡ true → read_answer t None r ≡ Some a → plain_answers t [] (r ∷ rs) ≡ a ∷ plain_answers t [] rs
-answers_more t read.Size rs a own is = ap (λ x. plain_answer x ∷ plain_answers t [] rs) is
-answers_more t (read.Text range limit) rs a own is = ap (λ x. plain_answer x ∷ plain_answers t [] rs) is
-answers_more t _ rs a own is = absurd (false≢true own)
-
-pub own_at : (reads : List Read) (i : ℕ) (r : Read) → i < length reads → r ≡ get_or reads i r → list_all is_own_read reads ≡ true → is_own_read r ≡ true
-own_at [] i r within at all = absurd (omega arith)
-own_at (s ∷ ss) zero r within at all = rw at (both _ _ all).0
-own_at (s ∷ ss) (suc i) r within at all = own_at ss i r (omega arith) at (both _ _ all).1
-
--- one more read was answered
-pub reads_more : (t : List ℕ) (done : List ReadAnswer) (reads : List Read) (i : ℕ) (r : Read) (a : ReadAnswer) → i < length reads → r ≡ get_or reads i r → list_all is_own_read reads ≡ true → read_answer t None r ≡ Some a
-    → done ++ plain_answers t [] (drop i reads) ≡ plain_answers t [] reads → (done ++ a ∷ []) ++ plain_answers t [] (drop (i + 1) reads) ≡ plain_answers t [] reads
-reads_more t done reads i r a within at own is so_far =
-    let rest : drop i reads ≡ r ∷ drop (i + 1) reads = rest_at reads i r within at in
-    append_assoc done (a ∷ []) (plain_answers t [] (drop (i + 1) reads))
-    ∙ (ap (λ (answers : List ReadAnswer). done ++ answers) (sym (ap (plain_answers t []) rest ∙ answers_more t r (drop (i + 1) reads) a (own_at reads i r within at own) is)) ∙ so_far)
+-- all commands were answered
+pub runs_all : (first now : State) (held : List Kept) (all told : List (Option Matches)) (left : ℕ) (done : List Reply) (commands : List Command) (i : ℕ) → length commands ≤ i
+    → RunsSoFar first now held all told left done commands i → AreReplies first all commands done × (now ≡ after first (calls_of commands))
+runs_all first now held all told left done commands i past so_far =
+    let none : drop i commands ≡ [] = drop_of_length-le commands {i = i} past in
+    let no_more : told ≡ [] = nothing_left told (so_far.matchers ∙ ap patterns_of none) in
+    let used : all ≡ so_far.used = so_far.split ∙ (ap (λ (ms : List (Option Matches)). so_far.used ++ ms) no_more ∙ append-nil so_far.used) in (
+      record {
+        found = so_far.found;
+        agree = rw used so_far.agree;
+        are = sym (append-nil done) ∙ (ap (λ (cs : List Command). done ++ plain_replies 1 [] now so_far.kept cs) (sym none)
+            ∙ (so_far.replied [] ∙ ap (λ (ms : List (Option Matches)). plain_replies 1 ms first [] commands) (append-nil so_far.found)));
+      },
+      sym (ap (λ (cs : List Command). after now (calls_of cs)) none) ∙ so_far.reached,
+    )
 
 -- the one item of a list
 pub one_item : {A : Type 0} (xs : List A) (x : A) → length xs ≡ 1 → x ≡ get_or xs 0 x → xs ≡ x ∷ []
@@ -259,10 +311,12 @@ one_item (y ∷ []) x one at = ap (λ z. z ∷ []) (sym at)
 one_item (y ∷ z ∷ zs) x one at = absurd (omega arith)
 
 -- the parts of a transcript, as a run gathers them
-pub lawful_run : (script : Script) (opening : List ℕ) (commands : List Command) (count : ℕ) (bytes : List ℕ) (sessions : List (List Reply)) (version : ℕ) → script.sessions ≡ commands ∷ []
+pub lawful_run : (script : Script) (opening : List ℕ) (told : List (Option Matches)) (commands : List Command) (count : ℕ) (bytes : List ℕ) (replies : List Reply) (sessions : List (List Reply)) (version : ℕ) → script.sessions ≡ commands ∷ [] → script.version ≡ 1
     → count ≡ (after (opened opening) (calls_of commands)).count → bytes ≡ text_of (after (opened opening) (calls_of commands)).text
-    → sessions ≡ plain_replies script.version [] (opened opening) [] commands ∷ [] → version ≡ script.version
-    → IsLawful script opening [] (record { end = record { count = count; text = bytes }; sessions = sessions; version = version })
-lawful_run script opening commands count bytes sessions version one counts text answers same =
+    → AreReplies (opened opening) told commands replies → sessions ≡ replies ∷ [] → version ≡ script.version
+    → IsLawful script opening told (record { end = record { count = count; text = bytes }; sessions = sessions; version = version })
+lawful_run script opening told commands count bytes replies sessions version one first counts text answers are same =
     let all : count ≡ length (calls_of commands) = counts ∙ after_counts (opened opening) (calls_of commands) ∙ zero-add (length (calls_of commands)) in
-    rw (all, text, answers, same) (plain_is_lawful script opening [] commands one)
+    let listed : sessions ≡ plain_replies script.version answers.found (opened opening) [] commands ∷ [] =
+    are ∙ ap (λ (rs : List Reply). rs ∷ []) (answers.are ∙ ap (λ (v : ℕ). plain_replies v answers.found (opened opening) [] commands) (sym first)) in
+    lawful_by script opening told answers.found _ answers.agree (rw (all, text, listed, same) (plain_is_lawful script opening answers.found commands one))

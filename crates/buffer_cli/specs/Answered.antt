@@ -1,18 +1,20 @@
 -- What the buffer answers to a command: as the plain machine does.
-use Rattle.std.specs.Prelude.{[], ◌∷◌, ℕ, List, Bool, true, false, find, is_some, count_by}
+use Rattle.std.specs.Prelude.{◌∷◌, ℕ, List, Bool, true, false, find, is_some, count_by, Option}
 use Rattle.std.specs.List.{list_all}
 use Rattle.machine.specs.declared.command.Command.{Command}
 use Rattle.machine.specs.declared.command.Command.TheVariants as command
+use Rattle.machine.specs.declared.reads.Read.{Read}
+use Rattle.machine.specs.declared.reads.Read.TheVariants as read
 use Rattle.machine.specs.declared.reply.Reply.{Reply}
 use Rattle.machine.specs.Machine.{State}
-use Rattle.machine.specs.Answers.{call_of}
+use Rattle.machine.specs.Answers.{call_of, Matches}
 use Rattle.machine.specs.Plain.{Kept, after_call, plain_reply}
-use Rattle.script.specs.Limits.{is_watch}
-use Rattle.buffer.specs.Reads.{is_own_read, has_number, without_first}
+use Rattle.script.specs.Limits.{has_needle, is_watch}
+use Rattle.buffer.specs.Reads.{has_number, without_first}
 
--- the state after a command, and the reply to it in a transcript of version 1, with these snapshots
-abbrev pub answered : State → List Kept → Command → State × Reply
-answered s held c = (after_call s (call_of c), plain_reply 1 s held [] c)
+-- the state after a command, and the reply to it in a transcript of version 1, with these snapshots and these hits of its patterns
+abbrev pub answered : State → List Kept → List (Option Matches) → Command → State × Reply
+answered s held found c = (after_call s (call_of c), plain_reply 1 s held found c)
 
 -- the live snapshots after a command
 abbrev pub held_after : State → Command → List Kept → List Kept
@@ -20,12 +22,22 @@ held_after s (command.Take k) held = record { number = k; text = s.text } ∷ he
 held_after s (command.Release k) held = without_first k held
 held_after s _ held = held
 
--- the commands that a session answers by itself: all but a batch and a task for the workers, and a read of what the text alone tells
+-- the reads that a session answers: all but saves, and no search for nothing
+abbrev pub is_answered_read : Read → Bool
+is_answered_read (read.Save name encoding) = false
+is_answered_read r = has_needle r
+
+-- the commands that a session answers by itself: all but a batch, a task for the workers and saves
 abbrev pub is_answered : Command → Bool
 is_answered (command.Batch edits) = false
 is_answered (command.Send k reads) = false
-is_answered (command.Read k reads) = list_all is_own_read reads
+is_answered (command.Read k reads) = list_all is_answered_read reads
 is_answered _ = true
+
+-- the command reads a snapshot
+abbrev pub is_read : Command → Bool
+is_read (command.Read k reads) = true
+is_read _ = false
 
 -- a read is of a live snapshot
 abbrev pub is_held : List Kept → Command → Bool

@@ -11,6 +11,7 @@ exit_code status.Usage = 2
 exit_code (status.ScriptRefused session command why) = 3
 exit_code status.ReadFault = 4
 exit_code status.WriteFault = 5
+exit_code (status.PatternRefused session command) = 7
 exit_code status.InputTooLong = 8
 exit_code status.NoMemory = 9
 
@@ -21,5 +22,6 @@ fault_text status.Usage = codes "usage: run [--workers N] | bulk FIRST EDITS WOR
 fault_text (status.ScriptRefused session command why) = codes "script refused: session " ++ decimal session ++ codes " command " ++ decimal command ++ codes ": " ++ rule_name why
 fault_text status.ReadFault = codes "cannot read the input"
 fault_text status.WriteFault = codes "cannot write the output"
+fault_text (status.PatternRefused session command) = codes "pattern refused: session " ++ decimal session ++ codes " command " ++ decimal command
 fault_text status.InputTooLong = codes "input too long"
 fault_text status.NoMemory = codes "out of memory"

@@ -1,14 +1,18 @@
 //! The program: it runs a script from standard input, and writes its transcript to standard output.
 //!
 //! A run goes through these modules: `input` reads the script's bytes, `answer` turns them into those
-//! of the transcript, `session` answers each command by calls of the buffer, and `output` writes the bytes.
+//! of the transcript, `matchers` makes the matchers of its patterns, `session` answers each command by calls of the buffer,
+//! `reads` answers the reads of a snapshot, and `output` writes the bytes.
 //! `run` joins them, and its contract says what the program does.
 #![tactic(auto)]
 
 mod adapters;
 mod answer;
 mod input;
+mod matchers;
 mod output;
+mod reads;
+mod regexes;
 mod run;
 mod session;
 mod status;
@@ -18,6 +22,7 @@ mod unheard;
 
 use adapters::{Reading, Writing};
 use points::MAX_WATCHERS;
+use regexes::RegexMaker;
 pub use run::run_script;
 pub use status::Status;
 use std::process::ExitCode;
@@ -62,5 +67,13 @@ fn run_program(rt: &HostRuntime) -> Status {
     }
     let mut input = Reading::new(rt.reader());
     let mut output = Writing::new(io::writer(rt));
-    run_script(alloc, words.as_slice(), &mut input, &mut output, watchers)
+    let mut patterns = RegexMaker::new();
+    run_script(
+        alloc,
+        words.as_slice(),
+        &mut input,
+        &mut output,
+        &mut patterns,
+        watchers,
+    )
 }

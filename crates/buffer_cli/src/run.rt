@@ -3,36 +3,38 @@ ghost use Rattle.std.specs.Prelude.{◌≡◌, ◌⊎◌, ◌↔◌, ℕ, ◌≤
 ghost use Rattle.std.specs.List.{AllByRecursion};
 ghost use Rattle.outer.specs.Count.{Rose};
 ghost use Rattle.outer.specs.Source.{Gives};
-ghost use Rattle.buffer_cli.specs.Run.{is_run_line, Explains, expected};
+ghost use Rattle.buffer_cli.specs.Run.{is_run_line, Explains, expected, refuses_pattern};
 
-use crate::answer::answer;
+use crate::answer::{Unanswered, answer};
 use crate::input::{InputFault, read_to_end};
 use crate::output::write_all;
 use crate::status::Status;
-use outer::{Sink, Source};
-use script::ScriptRefusal;
+use outer::{PatternMaker, Sink, Source};
 use std::alloc::Global;
 use watch::Watcher;
 
 /// Runs the script that the input holds, and writes its transcript to the output.
-/// The words are those behind the program's name. The k-th `watch` of the script attaches the k-th of the watchers, none
-/// of which has heard a change yet.
-pub fn run_script<I: Source, O: Sink>(
+/// The words are those behind the program's name. `patterns` makes the matchers of the script's patterns. The k-th `watch` of the
+/// script attaches the k-th of the watchers, none of which has heard a change yet.
+pub fn run_script<I: Source, O: Sink, P: PatternMaker>(
     alloc: Global,
     words: &[String],
     input: &mut I,
     output: &mut O,
+    patterns: &mut P,
     watchers: Vec<Box<dyn Watcher>>,
 ) -> Status
     requires watchers { length watchers.items ≡ 64 }
     requires unheard { AllByRecursion (λ w. count_of w ≡ 0) watchers.items }
     // Each status has its cause in the bytes that were read and in what the output took. On Done the
     // input was read to its end, and the output took the text of a transcript that is lawful for the
-    // script whose bytes were read.
+    // script whose bytes were read, by the hits that the maker tells of its patterns.
     ensures outcome { (bytes : List ℕ) × Gives bytes (I.left input.old) (I.left input.new)
         × Explains result (record {
           bytes = bytes;
           left = I.left input.new;
+          tells = P.hits patterns.old;
+          last = P.refused patterns.new;
           before = O.taken output.old;
           after = O.taken output.new;
         }) }
@@ -42,13 +44,16 @@ pub fn run_script<I: Source, O: Sink>(
     // A fault is one of the outside.
     ensures input_count { I.faults input.old ≤ I.faults input.new }
     ensures output_count { O.faults output.old ≤ O.faults output.new }
+    ensures pattern_count { P.refusals patterns.old ≤ P.refusals patterns.new }
     ensures read_fault { result ≡ Status.ReadFault → Rose (I.faults input.old) (I.faults input.new) }
     ensures write_fault { result ≡ Status.WriteFault → Rose (O.faults output.old) (O.faults output.new) }
+
+    ensures pattern_refused { refuses_pattern result ≡ true → Rose (P.refusals patterns.old) (P.refusals patterns.new) }
 
     // Where nothing fails, the status is the one that the input asks for, unless memory ran out.
     ensures complete { is_run_line words.now ≡ true → IfSome (I.left input.old) (λ bytes.
         ¬ Rose (I.faults input.old) (I.faults input.new) → ¬ Rose (O.faults output.old) (O.faults output.new)
-        → (result ≡ expected bytes) ⊎ (result ≡ Status.NoMemory)) }
+        → ¬ Rose (P.refusals patterns.old) (P.refusals patterns.new) → (result ≡ expected bytes) ⊎ (result ≡ Status.NoMemory)) }
 {
     if !is_run_line(words) {
         return Status::Usage;
@@ -59,13 +64,13 @@ pub fn run_script<I: Source, O: Sink>(
         Err(InputFault::TooLong) => return Status::InputTooLong,
         Err(InputFault::NoMemory) => return Status::NoMemory,
     };
-    match answer(alloc, bytes, watchers) {
+    match answer(alloc, bytes, patterns, watchers) {
         Ok(text) => match write_all(output, text.as_slice()) {
             Ok(()) => Status::Done,
             Err(_) => Status::WriteFault,
         },
         Err(
-            ScriptRefusal::Refused {
+            Unanswered::ScriptRefused {
                 session,
                 command,
                 why,
@@ -75,7 +80,10 @@ pub fn run_script<I: Source, O: Sink>(
             command,
             why,
         },
-        Err(ScriptRefusal::NoMemory) => Status::NoMemory,
+        Err(Unanswered::PatternRefused { session, command }) => {
+            Status::PatternRefused { session, command }
+        }
+        Err(Unanswered::NoMemory) => Status::NoMemory,
     }
 }
 

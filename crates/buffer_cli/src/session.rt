@@ -1,15 +1,20 @@
 //! The commands of a session, answered in turn.
-ghost use Rattle.std.specs.Prelude.{◌≡◌, ◌+◌, ◌<◌, ◌≤◌, [], ◌∷◌, drop, find, is_some, length, true, IfOk, OnOk};
+ghost use Rattle.std.specs.Prelude.{◌≡◌, ◌+◌, ◌<◌, ◌≤◌, [], ◌∷◌, count_by, drop, false, find, is_some, length, map, true, IfOk, OnOk};
 ghost use Rattle.std.specs.List.{AllByRecursion, list_all};
+ghost use Rattle.points.specs.Text.{IsWellFormed};
 ghost use Rattle.machine.specs.Machine.{after};
-ghost use Rattle.machine.specs.Plain.{plain_replies, plain_answers, calls_of, kept_text, are_live};
+ghost use Rattle.machine.specs.Lawful.{is_pattern, patterns_in, patterns_of};
+ghost use Rattle.machine.specs.Plain.{calls_of, kept_text, are_live};
 ghost use Rattle.buffer.specs.Seen.{Hears, state_of};
 ghost use Rattle.buffer.specs.Sound.{IsSound};
-ghost use Rattle.buffer.specs.Reads.{is_own_read, has_number};
-ghost use Rattle.buffer_cli.specs.Answered.{answered, held_after, is_answered, is_held, watches_in};
+ghost use Rattle.buffer.specs.Reads.{has_number};
+ghost use Rattle.buffer_cli.specs.Answered.{answered, held_after, is_answered, is_answered_read, is_held, is_read, watches_in};
+ghost use Rattle.buffer_cli.specs.Hits.{AreAnswers, AreReplies, IsReply};
 
-use buffer::{Buffer, Snapshot, Snapshots};
+use crate::reads::answer_reads;
+use buffer::{Buffer, Snapshots};
 use machine::{Command, Read, ReadAnswer, Reply, Sequence};
+use outer::Matcher;
 use points::{LAST, NoMemory};
 use std::alloc::Global;
 use watch::{Listens, Seat, Watcher};
@@ -23,43 +28,84 @@ pub(crate) struct Session {
     pub(crate) watchers: Vec<Box<dyn Watcher>>,
 }
 
-/// Answers these commands in turn. Each `watch` attaches the next watcher.
-pub(crate) fn answer_all(
+/// Answers these commands in turn. Each `watch` attaches the next watcher, and each read of a pattern takes the next matcher.
+pub(crate) fn answer_all<M: Matcher>(
     alloc: Global,
     session: &mut Session,
+    matchers: &mut Vec<M>,
     commands: &[Command],
 ) -> Result<Vec<Reply>, NoMemory>
     requires count { session.old.buffer.count + length commands.now < LAST }
     requires answered { AllByRecursion (λ c. is_answered c ≡ true) commands.now }
     requires live { are_live [] commands.now ≡ true }
+    requires whole { AllByRecursion (λ k. IsWellFormed k.text) session.old.snapshots }
     requires watches { watches_in commands.now ≤ length session.old.watchers.items }
+    requires matchers { length matchers.old.items ≡ patterns_of commands.now }
     requires unheard { AllByRecursion (λ w. count_of w ≡ 0) session.old.watchers.items }
     requires sound { IsSound (state_of session.old.buffer) }
     requires told { session.old.buffer.followers.watchers.told ≤ session.old.buffer.count }
     requires stands { Hears (λ s. ⟦<Seat as Listens>⟧.kept s) session.old.buffer }
-    ensures replies { IfOk result (λ rs. rs.items ≡ plain_replies 1 [] (state_of session.old.buffer) [] commands.now) }
+    ensures replies { IfOk result (λ rs. AreReplies (state_of session.old.buffer) (map M.tells matchers.old.items) commands.now rs.items) }
     ensures after { OnOk result (state_of session.new.buffer ≡ after (state_of session.old.buffer) (calls_of commands.now)) }
 {
     let mut replies = Vec::new(alloc);
     for command in commands {
-        replies.push(answer_one(alloc, session, command)?)?;
+        replies.push(answer_one(alloc, session, matchers, command)?)?;
     }
     Ok(replies)
 }
 
 // Answers one command.
-fn answer_one(alloc: Global, session: &mut Session, command: &Command) -> Result<Reply, NoMemory>
+fn answer_one<M: Matcher>(
+    alloc: Global,
+    session: &mut Session,
+    matchers: &mut Vec<M>,
+    command: &Command,
+) -> Result<Reply, NoMemory>
     requires count { session.old.buffer.count < LAST }
     requires answered { is_answered command.now ≡ true }
     requires held { is_held session.old.snapshots command.now ≡ true }
+    requires whole { AllByRecursion (λ k. IsWellFormed k.text) session.old.snapshots }
+    requires watcher { watches_in (command.now ∷ []) ≤ length session.old.watchers.items }
+    requires enough { patterns_in command.now ≤ length matchers.old.items }
+    requires unheard { AllByRecursion (λ w. count_of w ≡ 0) session.old.watchers.items }
+    requires sound { IsSound (state_of session.old.buffer) }
+    requires told { session.old.buffer.followers.watchers.told ≤ session.old.buffer.count }
+    requires stands { Hears (λ s. ⟦<Seat as Listens>⟧.kept s) session.old.buffer }
+    ensures ok { IfOk result (λ reply. IsReply (state_of session.old.buffer) session.old.snapshots (map M.tells matchers.old.items) (map M.tells matchers.new.items) command.now
+        (state_of session.new.buffer) reply) }
+    ensures held { OnOk result (session.new.snapshots ≡ held_after (state_of session.old.buffer) command.now session.old.snapshots) }
+    ensures watchers { session.new.watchers.items ≡ drop (watches_in (command.now ∷ [])) session.old.watchers.items }
+    ensures sound { IsSound (state_of session.new.buffer) }
+    ensures told { session.new.buffer.followers.watchers.told ≤ session.new.buffer.count }
+    ensures stands { Hears (λ s. ⟦<Seat as Listens>⟧.kept s) session.new.buffer }
+{
+    match command {
+        Command::Read { snapshot, reads } => {
+            let reads = reads.as_slice();
+            let answers = read(alloc, &session.snapshots, matchers, *snapshot, reads)?;
+            Ok(Reply::Answered {
+                answers: Sequence::new(answers),
+            })
+        }
+        _ => answer_other(alloc, session, command),
+    }
+}
+
+// Answers a command that reads no snapshot.
+fn answer_other(alloc: Global, session: &mut Session, command: &Command) -> Result<Reply, NoMemory>
+    requires other { is_read command.now ≡ false }
+    requires count { session.old.buffer.count < LAST }
+    requires answered { is_answered command.now ≡ true }
     requires watcher { watches_in (command.now ∷ []) ≤ length session.old.watchers.items }
     requires unheard { AllByRecursion (λ w. count_of w ≡ 0) session.old.watchers.items }
     requires sound { IsSound (state_of session.old.buffer) }
     requires told { session.old.buffer.followers.watchers.told ≤ session.old.buffer.count }
     requires stands { Hears (λ s. ⟦<Seat as Listens>⟧.kept s) session.old.buffer }
-    ensures ok { IfOk result (λ reply. (state_of session.new.buffer, reply) ≡ answered (state_of session.old.buffer) session.old.snapshots command.now) }
+    ensures ok { IfOk result (λ reply. (state_of session.new.buffer, reply) ≡ answered (state_of session.old.buffer) session.old.snapshots [] command.now) }
     ensures held { OnOk result (session.new.snapshots ≡ held_after (state_of session.old.buffer) command.now session.old.snapshots) }
     ensures watchers { session.new.watchers.items ≡ drop (watches_in (command.now ∷ [])) session.old.watchers.items }
+    ensures sound { IsSound (state_of session.new.buffer) }
     ensures told { session.new.buffer.followers.watchers.told ≤ session.new.buffer.count }
     ensures stands { Hears (λ s. ⟦<Seat as Listens>⟧.kept s) session.new.buffer }
 {
@@ -77,12 +123,6 @@ fn answer_one(alloc: Global, session: &mut Session, command: &Command) -> Result
             let version = session.snapshots.take(&mut session.buffer, *snapshot)?;
             Ok(Reply::Taken { version })
         }
-        Command::Read { snapshot, reads } => {
-            let answers = read(alloc, &session.snapshots, *snapshot, reads.as_slice())?;
-            Ok(Reply::Answered {
-                answers: Sequence::new(answers),
-            })
-        }
         Command::Release { snapshot } => {
             session.snapshots.release(&mut session.buffer, *snapshot);
             Ok(Reply::Nothing)
@@ -96,34 +136,21 @@ fn answer_one(alloc: Global, session: &mut Session, command: &Command) -> Result
 }
 
 // Answers reads of the live snapshot that has a number.
-fn read(
+fn read<M: Matcher>(
     alloc: Global,
     snapshots: &Snapshots,
+    matchers: &mut Vec<M>,
     number: u32,
     reads: &[Read],
 ) -> Result<Vec<ReadAnswer>, NoMemory>
-    requires own { list_all is_own_read reads.now ≡ true }
+    requires answered { list_all is_answered_read reads.now ≡ true }
     requires held { is_some (find (has_number number) snapshots.now) ≡ true }
-    ensures { IfOk result (λ answers. answers.items ≡ plain_answers (kept_text number snapshots.now) [] reads.now) }
+    requires whole { AllByRecursion (λ k. IsWellFormed k.text) snapshots.now }
+    requires enough { count_by is_pattern reads.now ≤ length matchers.old.items }
+    ensures { IfOk result (λ answers. AreAnswers (kept_text number snapshots.now) (map M.tells matchers.old.items) (map M.tells matchers.new.items) reads.now answers.items) }
 {
     match snapshots.find(number) {
-        Some(snapshot) => answer_reads(alloc, snapshot, reads),
+        Some(snapshot) => answer_reads(alloc, snapshot, matchers, reads),
         None => unreachable!(),
     }
-}
-
-// Answers these reads of a snapshot in turn.
-fn answer_reads(
-    alloc: Global,
-    snapshot: &Snapshot,
-    reads: &[Read],
-) -> Result<Vec<ReadAnswer>, NoMemory>
-    requires { list_all is_own_read reads.now ≡ true }
-    ensures { IfOk result (λ answers. answers.items ≡ plain_answers snapshot.now.text [] reads.now) }
-{
-    let mut answers = Vec::new(alloc);
-    for read in reads {
-        answers.push(snapshot.read(alloc, read)?)?;
-    }
-    Ok(answers)
 }

@@ -24,6 +24,11 @@ pub enum Status {
     ReadFault,
     /// The output failed. It may hold a part of the result.
     WriteFault,
+    /// The pattern of a read at this place was refused.
+    PatternRefused {
+        session: u32,
+        command: u32,
+    },
     /// The input has more than 2^26 bytes.
     InputTooLong,
     /// There was no memory for it.
@@ -41,6 +46,7 @@ impl Status {
             Status::ScriptRefused { .. } => 3,
             Status::ReadFault => 4,
             Status::WriteFault => 5,
+            Status::PatternRefused { .. } => 7,
             Status::InputTooLong => 8,
             Status::NoMemory => 9,
         }
@@ -84,6 +90,9 @@ impl fmt::Display for Fault {
             ),
             Status::ReadFault => f.write_str("cannot read the input"),
             Status::WriteFault => f.write_str("cannot write the output"),
+            Status::PatternRefused { session, command } => {
+                write!(f, "pattern refused: session {session} command {command}")
+            }
             Status::InputTooLong => f.write_str("input too long"),
             Status::NoMemory => f.write_str("out of memory"),
         }

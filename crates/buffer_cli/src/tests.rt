@@ -1,10 +1,15 @@
-//! The top call over sources and sinks in memory, the adapters over readers and writers, and the lines of the statuses.
+//! The top call over sources, sinks and makers of matchers in memory, the adapters over readers, writers and regular expressions,
+//! and the lines of the statuses.
 use crate::adapters::{Reading, Writing};
+use crate::regexes::RegexMaker;
 use crate::unheard::are_unheard;
 use crate::{Status, run_script};
 use buffer::Buffer;
 use machine::{CallRefusal, Command, Reply, Text};
-use outer::{MemSink, MemSource, Sink, Source, SureSink, SureSource};
+use outer::{
+    LiteralMaker, MakeRefusal, Matcher, MemSink, MemSource, PatternMaker, Sink, Source, Spans,
+    SureMaker, SureSink, SureSource,
+};
 use points::{MAX_WATCHERS, Point, Range};
 use script::ScriptRule;
 use std::alloc::{AllocError, Global};
@@ -36,11 +41,12 @@ fn words(alloc: Global, list: &[&str]) -> Result<Vec<String>, AllocError> {
 }
 
 /// Runs a script with watchers that keep nothing of what they hear.
-fn run_watched<I: Source, O: Sink>(
+fn run_watched<I: Source, O: Sink, P: PatternMaker>(
     alloc: Global,
     words: &[String],
     input: &mut I,
     output: &mut O,
+    patterns: &mut P,
 ) -> Option<Status> {
     let mut watchers: Vec<Box<dyn Watcher>> = Vec::new(alloc);
     for _ in 0..MAX_WATCHERS {
@@ -50,7 +56,7 @@ fn run_watched<I: Source, O: Sink>(
     if watchers.len() != MAX_WATCHERS || !are_unheard(watchers.as_slice()) {
         return None;
     }
-    Some(run_script(alloc, words, input, output, watchers))
+    Some(run_script(alloc, words, input, output, patterns, watchers))
 }
 
 /// Runs a script in memory, with calls of the input and of the output that fail.
@@ -64,7 +70,15 @@ fn run(
     let words = words(alloc, line)?;
     let mut input = MemSource::new(script, read_fails);
     let mut output = MemSink::new(alloc, 4096, put_fails)?;
-    let status = run_watched(alloc, words.as_slice(), &mut input, &mut output).ok_or("watchers")?;
+    let mut patterns = LiteralMaker::new(Vec::new(alloc));
+    let status = run_watched(
+        alloc,
+        words.as_slice(),
+        &mut input,
+        &mut output,
+        &mut patterns,
+    )
+    .ok_or("watchers")?;
     Ok((status, output))
 }
 
@@ -117,6 +131,74 @@ fn runs_scripts(rt: HostRuntime) -> Result<(), Fail> {
         assert!(rt; gives(rt.alloc(), script, transcript)?);
     }
     Ok(())
+}
+
+#[test]
+fn searches_snapshots(rt: HostRuntime) -> Result<(), Fail> {
+    let cases = [
+        // a snapshot shows the text before three edits, and a literal in it
+        (
+            r#"{"version":1,"open":{"text":"abc"},"sessions":[[
+                {"do":"take","snapshot":1},{"do":"edit","range":[0,0,0,0],"text":"1"},
+                {"do":"edit","range":[0,0,0,0],"text":"2"},{"do":"edit","range":[0,0,0,1],"text":""},
+                {"do":"read","snapshot":1,"reads":[{"get":"text","range":[0,0,9,9],"limit":100},
+                {"get":"find","needle":"b","limit":5}]},{"do":"release","snapshot":1}]]}"#,
+            "{\"end\":{\"count\":3,\"text\":\"1abc\"},\"sessions\":[[{\"version\":0},\
+                {\"at\":1,\"end\":[0,1],\"from\":[0,0],\"hits\":[0,0,0,0],\"to\":[0,0]},\
+                {\"at\":2,\"end\":[0,1],\"from\":[0,0],\"hits\":[0,0,0,0],\"to\":[0,0]},\
+                {\"at\":3,\"end\":[0,0],\"from\":[0,0],\"hits\":[0,0,0,0],\"to\":[0,1]},\
+                {\"answers\":[{\"text\":\"abc\",\"units\":3},{\"count\":1,\"hits\":[[0,1,0,2]]}]},null]],\"version\":1}\n",
+        ),
+        // hits don't overlap, and the limit bounds those that are shown; each pattern has its own matcher
+        (
+            r#"{"version":1,"open":{"text":"aaaa\nb"},"sessions":[[{"do":"take","snapshot":1},
+                {"do":"read","snapshot":1,"reads":[{"get":"find","needle":"aa","limit":10},
+                {"get":"pattern","pattern":"b","limit":2},{"get":"find","needle":"aa","limit":1}]},
+                {"do":"read","snapshot":1,"reads":[{"get":"pattern","pattern":"a\nb","limit":1}]}]]}"#,
+            "{\"end\":{\"count\":0,\"text\":\"aaaa\\nb\"},\"sessions\":[[{\"version\":0},\
+                {\"answers\":[{\"count\":2,\"hits\":[[0,0,0,2],[0,2,0,4]]},{\"count\":1,\"hits\":[[1,0,1,1]]},\
+                {\"count\":2,\"hits\":[[0,0,0,2]]}]},{\"answers\":[{\"count\":1,\"hits\":[[0,3,1,1]]}]}]],\"version\":1}\n",
+        ),
+    ];
+    for (script, transcript) in cases {
+        assert!(rt; gives(rt.alloc(), script, transcript)?);
+    }
+    Ok(())
+}
+
+/// A script with a pattern in its second command and one in its third.
+const PATTERNS: &str = r#"{"version":1,"open":{"text":""},"sessions":[[{"do":"take","snapshot":1},
+    {"do":"read","snapshot":1,"reads":[{"get":"size"},{"get":"pattern","pattern":"a","limit":1}]},
+    {"do":"read","snapshot":1,"reads":[{"get":"pattern","pattern":"b","limit":1}]}]]}"#;
+
+/// How a run of this script ends, where the call of the maker with this number refuses.
+fn end_of_patterns(alloc: Global, refused: u64) -> Option<Status> {
+    let words = words(alloc, &["run"]).ok()?;
+    let mut input = MemSource::new(PATTERNS.as_bytes().to_vec(alloc).ok()?, Vec::new(alloc));
+    let mut output = MemSink::new(alloc, 4096, Vec::new(alloc)).ok()?;
+    let mut patterns = LiteralMaker::new(call(alloc, refused).ok()?);
+    let status = run_watched(
+        alloc,
+        words.as_slice(),
+        &mut input,
+        &mut output,
+        &mut patterns,
+    )?;
+    if status != Status::Done && !output.bytes().is_empty() {
+        return None;
+    }
+    Some(status)
+}
+
+#[test]
+fn refuses_the_first_pattern_that_has_no_matcher(rt: HostRuntime) {
+    let at = |command| Some(Status::PatternRefused {
+        session: 1,
+        command,
+    });
+    assert!(rt; end_of_patterns(rt.alloc(), 1) == at(2));
+    assert!(rt; end_of_patterns(rt.alloc(), 2) == at(3));
+    assert!(rt; end_of_patterns(rt.alloc(), 3) == Some(Status::Done));
 }
 
 /// Whether a run ends so and writes so many bytes, over an input and an output whose calls with these
@@ -191,7 +273,7 @@ fn refuses_an_input_past_its_limit(rt: HostRuntime) -> Result<(), Fail> {
 fn runs_surely(alloc: Global, words: &[String]) -> Result<bool, Fail> {
     let mut input = SureSource::new(HI.as_bytes().to_vec(alloc)?);
     let mut output = SureSink::new(alloc, 4096)?;
-    let status = run_watched(alloc, words, &mut input, &mut output);
+    let status = run_watched(alloc, words, &mut input, &mut output, &mut SureMaker::new());
     Ok(status == Some(Status::Done) && output.bytes() == Some(HI_TRANSCRIPT.as_bytes()))
 }
 
@@ -272,6 +354,14 @@ fn prints_one_line_for_each_fault(rt: HostRuntime) -> Result<(), Fail> {
             "usage: run [--workers N] | bulk FIRST EDITS WORKERS | check SCRIPT TRANSCRIPT | make FIRST EDITS SESSIONS",
         ),
         (refused, 3, "script refused: session 2 command 7: BadShape"),
+        (
+            Status::PatternRefused {
+                session: 1,
+                command: 2,
+            },
+            7,
+            "pattern refused: session 1 command 2",
+        ),
         (Status::ReadFault, 4, "cannot read the input"),
         (Status::WriteFault, 5, "cannot write the output"),
         (Status::InputTooLong, 8, "input too long"),
@@ -336,4 +426,49 @@ fn writes_through_the_adapter(rt: HostRuntime) {
     assert!(rt; writes(&mut good, b"c", true));
     assert!(rt; good.into_writer().as_slice() == b"abc".as_slice());
     assert!(rt; writes(&mut Writing::new(Broken), b"ab", false));
+}
+
+/// How many hits a pattern has in a text, and the first two of them, where a matcher is made of it.
+fn matches(alloc: Global, pattern: &str, text: &str) -> Option<(u64, Spans)> {
+    let mut matcher = RegexMaker::new().make(alloc, pattern).ok()?;
+    let mut hits = Spans::new(alloc);
+    let count = matcher.find_all(alloc, text, 2, &mut hits).ok()?;
+    Some((count, hits))
+}
+
+fn match_as(
+    alloc: Global,
+    pattern: &str,
+    text: &str,
+    wanted: u64,
+    first: &[(usize, usize)],
+) -> bool {
+    match matches(alloc, pattern, text) {
+        Some((count, hits)) => count == wanted && hits.as_slice() == first,
+        None => false,
+    }
+}
+
+fn is_refused(alloc: Global, pattern: &str) -> bool {
+    matches!(
+        RegexMaker::new().make(alloc, pattern),
+        Err(MakeRefusal::Refused)
+    )
+}
+
+#[test]
+fn matches_through_the_adapter(rt: HostRuntime) {
+    let cases = [
+        ("a+", "caab a aaa", 3, [(1, 3), (5, 6)].as_slice()),
+        ("(?m)^", "a\nb", 2, [(0, 0), (2, 2)].as_slice()),
+        ("\u{e9}.", "\u{e9}\u{1F600}x", 1, [(0, 6)].as_slice()),
+        ("b", "a", 0, [].as_slice()),
+    ];
+    for (pattern, text, count, first) in cases {
+        assert!(rt;
+            match_as(rt.alloc(), pattern, text, count, first),
+            "{pattern}"
+        );
+    }
+    assert!(rt; is_refused(rt.alloc(), "("));
 }

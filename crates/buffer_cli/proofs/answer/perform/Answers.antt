@@ -1,53 +1,57 @@
-use Rattle.std.proofs.Common.{◌≡◌, ℕ, ◌≤◌, List, [], ◌∷◌, length, get_or, true, refl, sym, subst, ap, ◌∙◌, arith}
+use Rattle.std.proofs.Common.{◌≡◌, ℕ, ◌≤◌, List, length, map, refl, sym, subst, ap, ◌∙◌, arith}
 use Rattle.std.specs.Prelude.{Option, IsSomeAnd}
 use Rattle.points.specs.Text.{utf16_of, text_of}
 use Rattle.points.specs.declared.limits.TheConstants.{MAX_UNITS}
+use Rattle.points.proofs.WellFormedLemmas.{well_formed-utf16_of}
 use Rattle.machine.specs.declared.command.Command.{Command}
 use Rattle.machine.specs.Machine.{State, opened, after}
 use Rattle.machine.specs.Plain.{calls_of}
 use Rattle.buffer.specs.Seen.{state_of}
 use Rattle.buffer.specs.Sound.{IsSound}
 use Rattle.buffer.proofs.SoundLemmas.{sound_opened}
+use Rattle.buffer_cli.specs.Hits.{AreReplies}
 use Rattle.buffer_cli.proofs.LimitLemmas.{answerable}
-use Rattle.buffer_cli.proofs.RunLemmas.{one_item, lawful_run}
+use Rattle.buffer_cli.proofs.PatternLemmas.{script_is, session_many}
+use Rattle.buffer_cli.proofs.RunLemmas.{AreWhole, lawful_run}
 use Rattle.buffer_cli.proofs.answer.perform.Goals as goal
 
--- the one session of the script
-one_of : (sessions slice : List (List Command)) (first commands : List Command) → length sessions ≡ 1 → slice ≡ sessions → first ≡ get_or slice 0 first → commands ≡ first → sessions ≡ commands ∷ []
-one_of sessions slice first commands one is at same = rw same (sym is ∙ one_item slice first (rw is one) at)
-
 pub answer_all-requires-clause-answered : goal.answer_all-requires-clause-answered
-answer_all-requires-clause-answered g c =
-    (answerable c.args.script.now c.as_slice-2.result.now (one_of _ _ _ _ c.requires.limits.one c.as_slice.ensures c.index-as_slice-0.is c.as_slice-2.ensures) c.requires.limits).answered
+answer_all-requires-clause-answered g c = λ κs lives. (answerable c.args.script.now c.commands_of.result.now c.commands_of.ensures c.requires.limits).answered
 
 pub answer_all-requires-clause-live : goal.answer_all-requires-clause-live
-answer_all-requires-clause-live g c =
-    (answerable c.args.script.now c.as_slice-2.result.now (one_of _ _ _ _ c.requires.limits.one c.as_slice.ensures c.index-as_slice-0.is c.as_slice-2.ensures) c.requires.limits).live
+answer_all-requires-clause-live g c = λ κs lives. (answerable c.args.script.now c.commands_of.result.now c.commands_of.ensures c.requires.limits).live
 
 pub answer_all-requires-clause-watches : goal.answer_all-requires-clause-watches
-answer_all-requires-clause-watches g c =
-    let few = (answerable c.args.script.now c.as_slice-2.result.now (one_of _ _ _ _ c.requires.limits.one c.as_slice.ensures c.index-as_slice-0.is c.as_slice-2.ensures) c.requires.limits).watches in
+answer_all-requires-clause-watches g c = λ κs lives.
+    let few = (answerable c.args.script.now c.commands_of.result.now c.commands_of.ensures c.requires.limits).watches in
     let many = c.requires.watchers in
     omega (arith, few, many)
 
+pub answer_all-requires-clause-matchers : goal.answer_all-requires-clause-matchers
+answer_all-requires-clause-matchers g c = λ κs lives.
+    c.requires.matchers ∙ (ap length (script_is c.args.script.now c.commands_of.result.now c.commands_of.ensures) ∙ session_many c.commands_of.result.now)
+
+pub answer_all-requires-clause-whole : goal.answer_all-requires-clause-whole
+answer_all-requires-clause-whole g c = λ κs lives. subst AreWhole (sym c.new.ensures) tt
+
 pub answer_all-requires-clause-sound : goal.answer_all-requires-clause-sound
-answer_all-requires-clause-sound g c =
+answer_all-requires-clause-sound g c = λ κs lives.
     let short : length (utf16_of c.opening_text.result.now) ≤ MAX_UNITS = subst (λ (o : Option (List ℕ)). IsSomeAnd o (λ units. length units ≤ MAX_UNITS)) c.opening_text.ensures c.requires.limits.opening in
-    subst IsSound (sym c.in_ok-open.ensures.state) (sound_opened (utf16_of c.opening_text.result.now) short)
+    subst IsSound (sym c.in_ok-open.ensures.state) (sound_opened (utf16_of c.opening_text.result.now) short (well_formed-utf16_of c.opening_text.result.now c.opening_text.utf8))
 
 pub returns : goal.returns
 returns g c =
     let opening : List ℕ = utf16_of c.opening_text.result.now in
-    let commands : List Command = c.as_slice-2.result.now in
-    let one : c.args.script.now.sessions ≡ commands ∷ [] = one_of _ _ _ _ c.requires.limits.one c.as_slice.ensures c.index-as_slice-0.is c.as_slice-2.ensures in
+    let commands : List Command = c.commands_of.result.now in
     let reached : state_of c.answer_all.new.session.buffer ≡ after (opened opening) (calls_of commands) =
     c.in_ok-replies.ensures.after ∙ ap (λ (s : State). after s (calls_of commands)) c.in_ok-open.ensures.state in
     record {
       opening = opening;
       opens = c.opening_text.ensures;
-      lawful = lawful_run c.args.script.now opening commands _ _ _ _ one
+      lawful = lawful_run c.args.script.now opening (map g.M.Matcher.tells c.args.matchers.items) commands _ _ _ _ _ c.commands_of.ensures c.requires.limits.version
           (ap (λ (s : State). s.count) reached)
           (c.in_ok-to_text.ensures ∙ ap (λ (s : State). text_of s.text) reached)
-          (rw (c.new-3.ensures, c.in_ok-push.ensures.items, c.new-sessions.ensures.items, c.new-2.ensures, c.in_ok-replies.ensures.replies, c.in_ok-open.ensures.state, c.requires.limits.version) refl)
+          (subst (λ (s : State). AreReplies s (map g.M.Matcher.tells c.args.matchers.items) commands c.in_ok-replies.replies.items) c.in_ok-open.ensures.state c.in_ok-replies.ensures.replies)
+          (rw (c.new-3.ensures, c.in_ok-push.ensures.items, c.new-sessions.ensures.items, c.new-2.ensures) refl)
           refl;
     }

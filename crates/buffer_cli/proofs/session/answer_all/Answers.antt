@@ -1,9 +1,11 @@
-use Rattle.buffer_cli.proofs.RunLemmas.{runs_first, runs_more, answered_at, ready, all_dropped, all_longer}
+use Rattle.std.proofs.Common.{◌∙◌, arith}
+use Rattle.std.proofs.lemmas.List.{length-map}
+use Rattle.buffer_cli.proofs.RunLemmas.{runs_first, runs_more, runs_all, answered_at, ready, all_dropped, all_longer}
 use Rattle.buffer_cli.proofs.session.answer_all.Goals as goal
 
 pub loop-command-init : goal.loop-command-init
 loop-command-init g c = record {
-  runs = rw c.new-replies.ensures.items (runs_first _ _ _ _ c.requires.live c.requires.watches c.requires.sound);
+  runs = rw c.new-replies.ensures.items (runs_first _ _ _ _ _ c.requires.live c.requires.whole c.requires.watches (length-map c.args.matchers.now.items g.M.Matcher.tells ∙ c.requires.matchers) c.requires.sound);
   unheard = c.requires.unheard;
   told = c.requires.told;
   stands = c.requires.stands;
@@ -11,18 +13,32 @@ loop-command-init g c = record {
 
 pub loop-command-preserved : goal.loop-command-preserved
 loop-command-preserved g c =
-    let next = ready _ _ _ _ _ _ c.loop-command.command-index c.command-item.result c.loop-command-test.true c.command-item.is c.loop-command.invariant.runs in
+    let next = ready _ _ _ _ _ _ _ _ c.loop-command.command-index c.command-item.result c.loop-command-test.true c.command-item.is c.loop-command.invariant.runs in
     record {
-      runs = rw c.in_ok-push.ensures.items (runs_more _ _ _ _ _ _ _ _ _ c.loop-command.command-index c.command-item.result _ c.loop-command-test.true c.command-item.is
+      runs = rw c.in_ok-push.ensures.items (runs_more _ _ _ _ _ _ _ _ _ _ _ _ c.loop-command.command-index c.command-item.result _ c.loop-command-test.true c.command-item.is
           (answered_at _ c.loop-command.command-index c.command-item.result c.loop-command-test.true c.command-item.is c.requires.answered)
-          c.in_ok-answer_one.ensures.ok c.in_ok-answer_one.ensures.held (all_longer _ _ _ c.answer_one.ensures.watchers next.watcher) c.loop-command.invariant.runs);
+          c.in_ok-answer_one.ensures.ok c.answer_one.ensures.sound c.in_ok-answer_one.ensures.held (all_longer _ _ _ c.answer_one.ensures.watchers next.watcher) c.loop-command.invariant.runs);
       unheard = all_dropped _ _ _ _ c.answer_one.ensures.watchers c.loop-command.invariant.unheard;
       told = c.answer_one.ensures.told;
       stands = c.answer_one.ensures.stands;
     }
 
 pub answer_one-requires-clause-held : goal.answer_one-requires-clause-held
-answer_one-requires-clause-held g c = (ready _ _ _ _ _ _ c.loop-command.command-index c.command-item.result c.loop-command-test.true c.command-item.is c.loop-command.invariant.runs).there
+answer_one-requires-clause-held g c = λ κs lives. (ready _ _ _ _ _ _ _ _ c.loop-command.command-index c.command-item.result c.loop-command-test.true c.command-item.is c.loop-command.invariant.runs).there
 
 pub answer_one-requires-clause-watcher : goal.answer_one-requires-clause-watcher
-answer_one-requires-clause-watcher g c = (ready _ _ _ _ _ _ c.loop-command.command-index c.command-item.result c.loop-command-test.true c.command-item.is c.loop-command.invariant.runs).watcher
+answer_one-requires-clause-watcher g c = λ κs lives. (ready _ _ _ _ _ _ _ _ c.loop-command.command-index c.command-item.result c.loop-command-test.true c.command-item.is c.loop-command.invariant.runs).watcher
+
+pub answer_one-requires-clause-enough : goal.answer_one-requires-clause-enough
+answer_one-requires-clause-enough g c = λ κs lives.
+    let many = (ready _ _ _ _ _ _ _ _ c.loop-command.command-index c.command-item.result c.loop-command-test.true c.command-item.is c.loop-command.invariant.runs).matchers in
+    omega (arith, many, length-map c.loop-command.matchers.items g.M.Matcher.tells)
+
+pub answer_one-requires-clause-whole : goal.answer_one-requires-clause-whole
+answer_one-requires-clause-whole g c = λ κs lives. c.loop-command.invariant.runs.whole
+
+pub returns-clause-replies : goal.returns-clause-replies
+returns-clause-replies g c = (runs_all _ _ _ _ _ _ _ _ c.loop-command.command-index c.loop-command-test.false c.loop-command.invariant.runs).0
+
+pub returns-clause-after : goal.returns-clause-after
+returns-clause-after g c = (runs_all _ _ _ _ _ _ _ _ c.loop-command.command-index c.loop-command-test.false c.loop-command.invariant.runs).1
