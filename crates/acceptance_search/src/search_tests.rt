@@ -87,6 +87,8 @@ fn finds_hits_that_do_not_overlap(rt: HostRuntime) -> Result<(), Fail> {
     assert!(rt; finds(alloc, "aaaa", "aa", 10, 2, &both));
     assert!(rt; finds(alloc, "aaaa", "aa", 1, 2, &both[..1]));
     assert!(rt; finds(alloc, "aaaa", "b", 10, 0, &[]));
+    let rows = [(0, 1, 0, 2), (1, 0, 1, 1), (3, 2, 3, 3)];
+    assert!(rt; finds(alloc, "xb\nb\n\nyyb\n", "b", 10, 3, &rows));
     Ok(())
 }
 

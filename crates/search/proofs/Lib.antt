@@ -3,3 +3,4 @@ pub mod PlaceLemmas
 pub mod SpellLemmas
 pub mod LiteralLemmas
 pub mod FindLemmas
+pub mod CopyLemmas

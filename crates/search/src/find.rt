@@ -6,6 +6,7 @@ ghost use Rattle.machine.specs.Answers.{span_of_bytes};
 ghost use Rattle.outer.specs.Matcher.{AreHits};
 ghost use Rattle.search.specs.Answer.{FindsIn, answer_of, literal_answer, span_of};
 
+use crate::copy::copied;
 use crate::found::{Found, Ranges};
 use crate::place::ranges_of;
 use crate::refusal::FindRefusal;
@@ -44,7 +45,7 @@ fn literals_in(
     ensures { IfOk result (λ found. answer_of found ≡ literal_answer (mended reader.now.text) limit needle.now) }
 {
     prove!(reader.len() <= MAX_UNITS);
-    let copy = reader.to_text()?;
+    let copy = copied(alloc, reader)?;
     let text = copy.as_str();
     let mut hits = Spans::new(alloc);
     let count = find_literals(text, needle, limit, &mut hits)?;
@@ -67,7 +68,7 @@ pub fn find_pattern<M: Matcher>(
     ensures finds { IfOk result (λ found. FindsIn (M.tells matcher.old) reader.now.text limit found) }
 {
     prove!(reader.len() <= MAX_UNITS);
-    let copy = reader.to_text()?;
+    let copy = copied(alloc, reader)?;
     let text = copy.as_str();
     let mut hits = Spans::new(alloc);
     let count = matcher.find_all(alloc, text, limit, &mut hits)?;

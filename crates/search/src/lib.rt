@@ -4,6 +4,7 @@
 //! hits that are shown are then turned from byte offsets into points, in one pass over the text up to the last of them.
 #![tactic(auto)]
 
+mod copy;
 mod find;
 mod found;
 mod place;
