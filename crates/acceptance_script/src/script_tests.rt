@@ -1,7 +1,7 @@
 //! Scripts and transcripts as documents: which bytes are a script, and what a transcript's text is.
 use points::{MarkOrder, NoMemory, Point};
 use script::{
-    CallRefusal, Command, HitNumbers, How, Opening, Read, ReadAnswer, Reply, ReplyPart,
+    CallRefusal, Command, Encoding, HitNumbers, How, Opening, Read, ReadAnswer, Reply, ReplyPart,
     ScriptRefusal, ScriptRule, Sequence, Span, Text, Transcript, TranscriptEnd, read_script,
     transcript_bytes,
 };
@@ -40,7 +40,7 @@ fn holds(alloc: Global, row: &str) -> bool {
 
 // Nothing; a truncated script; a value after the value; a lone surrogate; a pair of surrogates; an unknown key;
 // another key; each key missing; a key twice, the last one right; a key twice, the first one right; other versions;
-// an opening file; openings of other shapes; no session; two and nine sessions; sessions and a session that are no
+// opening files, their encodings and names; openings of other shapes; no session; two and nine sessions; sessions and a session that are no
 // list; a command that is no object, a string, and a list. A fault of the document comes before those of commands.
 const DOCUMENTS: &str = "\
 0 0 NotJson|\n\
@@ -64,8 +64,22 @@ read|{\"version\":2,\"version\":1,\"open\":{\"text\":\"\"},\"sessions\":[[]]}\n\
 0 0 BadShape|{\"version\":\"1\",\"open\":{\"text\":\"\"},\"sessions\":[[]]}\n\
 0 0 BadShape|{\"version\":null,\"open\":{\"text\":\"\"},\"sessions\":[[]]}\n\
 0 0 BadShape|{\"version\":1.5,\"open\":{\"text\":\"\"},\"sessions\":[[]]}\n\
-0 0 BadShape|{\"version\":1,\"open\":{\"file\":\"a\",\"encoding\":\"utf8\"},\"sessions\":[[]]}\n\
-0 0 BadShape|{\"version\":1,\"open\":{\"file\":\".a\",\"encoding\":\"ascii\"},\"sessions\":[[]]}\n\
+read|{\"version\":1,\"open\":{\"file\":\"a\",\"encoding\":\"utf8\"},\"sessions\":[[]]}\n\
+read|{\"version\":1,\"open\":{\"encoding\":\"utf16le\",\"file\":\"a.b\"},\"sessions\":[[]]}\n\
+read|{\"version\":1,\"open\":{\"file\":\"-\",\"encoding\":\"utf16be\"},\"sessions\":[[]]}\n\
+read|{\"version\":1,\"open\":{\"file\":\"A-z_0.9xxxxxxxxxxxxxxxxxxxxxxxxxxxxxxxxxxxxxxxxxxxxxxxxxxxxxxxxx\",\"encoding\":\"latin1\"},\"sessions\":[[]]}\n\
+0 0 BadName|{\"version\":1,\"open\":{\"file\":\"A-z_0.9xxxxxxxxxxxxxxxxxxxxxxxxxxxxxxxxxxxxxxxxxxxxxxxxxxxxxxxxxx\",\"encoding\":\"latin1\"},\"sessions\":[[]]}\n\
+0 0 BadName|{\"version\":1,\"open\":{\"file\":\"\",\"encoding\":\"utf8\"},\"sessions\":[[]]}\n\
+0 0 BadName|{\"version\":1,\"open\":{\"file\":\"a/b\",\"encoding\":\"utf8\"},\"sessions\":[[null]]}\n\
+0 0 BadName|{\"version\":1,\"open\":{\"file\":\"a\\u00e9\",\"encoding\":\"utf8\"},\"sessions\":[[]]}\n\
+0 0 BadName|{\"version\":1,\"open\":{\"file\":\".a\",\"encoding\":\"utf8\"},\"sessions\":[[]]}\n\
+0 0 BadEncoding|{\"version\":1,\"open\":{\"file\":\".a\",\"encoding\":\"ascii\"},\"sessions\":[[null]]}\n\
+0 0 BadEncoding|{\"version\":1,\"open\":{\"file\":\"a\",\"encoding\":\"UTF8\"},\"sessions\":[[]]}\n\
+0 0 BadShape|{\"version\":1,\"open\":{\"file\":\"a\"},\"sessions\":[[]]}\n\
+0 0 BadShape|{\"version\":1,\"open\":{\"encoding\":\"utf8\"},\"sessions\":[[]]}\n\
+0 0 BadShape|{\"version\":1,\"open\":{\"file\":\"a\",\"encoding\":1},\"sessions\":[[]]}\n\
+0 0 BadShape|{\"version\":1,\"open\":{\"file\":null,\"encoding\":\"ascii\"},\"sessions\":[[]]}\n\
+0 0 BadShape|{\"version\":1,\"open\":{\"file\":\"a\",\"encoding\":\"utf8\",\"more\":0},\"sessions\":[[]]}\n\
 0 0 BadShape|{\"version\":1,\"open\":{\"text\":0},\"sessions\":[[]]}\n\
 0 0 BadShape|{\"version\":1,\"open\":{\"text\":null},\"sessions\":[[]]}\n\
 0 0 BadShape|{\"version\":1,\"open\":{},\"sessions\":[[]]}\n\
@@ -512,6 +526,25 @@ fn opens_with(opening: &Opening, expected: &str) -> bool {
     match opening {
         Opening::Text { text } => text.as_str() == expected,
         Opening::File { .. } => false,
+    }
+}
+
+// The file that a script opens, and its encoding.
+const OPENS_FILE: &[u8] =
+    b"{\"version\":1,\"open\":{\"file\":\"a.txt\",\"encoding\":\"utf16be\"},\"sessions\":[[]]}";
+
+fn opens_file(opening: &Opening, expected: &str, code: Encoding) -> bool {
+    match opening {
+        Opening::Text { .. } => false,
+        Opening::File { name, encoding } => name.as_str() == expected && *encoding == code,
+    }
+}
+
+#[test]
+fn reads_the_file_that_a_script_opens(rt: HostRuntime) {
+    match read_script(rt.alloc(), OPENS_FILE) {
+        Ok(script) => assert!(rt; opens_file(&script.opening, "a.txt", Encoding::Utf16Be)),
+        Err(_) => assert!(rt; false),
     }
 }
 

@@ -6,3 +6,5 @@ pub mod SnapshotReads
 pub mod LimitLemmas
 pub mod PatternLemmas
 pub mod PutLemmas
+pub mod LoadLemmas
+pub mod Expected

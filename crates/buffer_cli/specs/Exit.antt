@@ -14,6 +14,8 @@ exit_code status.WriteFault = 5
 exit_code (status.PatternRefused session command) = 7
 exit_code status.InputTooLong = 8
 exit_code status.NoMemory = 9
+exit_code status.LoadFault = 10
+exit_code status.TextTooLong = 11
 
 -- the line on standard error, without its end
 abbrev pub fault_text : Status → List ℕ
@@ -25,3 +27,5 @@ fault_text status.WriteFault = codes "cannot write the output"
 fault_text (status.PatternRefused session command) = codes "pattern refused: session " ++ decimal session ++ codes " command " ++ decimal command
 fault_text status.InputTooLong = codes "input too long"
 fault_text status.NoMemory = codes "out of memory"
+fault_text status.LoadFault = codes "cannot load"
+fault_text status.TextTooLong = codes "text too long"

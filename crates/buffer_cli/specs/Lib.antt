@@ -4,5 +4,7 @@ pub mod Patterns
 pub mod Hits
 pub mod Making
 pub mod Put
+pub mod LoadFaults
+pub mod Load
 pub mod Run
 pub mod Exit

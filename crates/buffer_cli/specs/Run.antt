@@ -1,12 +1,17 @@
 -- What a run of the program says: each status with its cause.
-use Rattle.std.specs.Prelude.{◌≡◌, ℕ, ◌+◌, ◌≤◌, nat_lt, List, [], ◌∷◌, length, codes, Bool, true, false, if◌then◌else◌, Option, Some, None, String, string_bytes}
+use Rattle.std.specs.Prelude.{◌≡◌, ◌⊎◌, ℕ, ◌+◌, ◌≤◌, nat_lt, List, [], ◌∷◌, length, codes, Bool, true, false, if◌then◌else◌, Option, Some, None, String, string_bytes}
 use Rattle.std.specs.declared.alloc.Global.{Global}
 use Rattle.std.specs.Str.{bytes_eq}
 use Rattle.outer.specs.Source.{IsAtEnd}
 use Rattle.outer.specs.Sink.{Appends, AppendsPrefix}
+use Rattle.points.specs.declared.limits.TheConstants.{MAX_UNITS}
+use Rattle.outer.specs.Folder.{Files, bytes_of, KeepsOthers, KeepsAll}
+use Rattle.machine.specs.declared.command.Opening.{Opening}
+use Rattle.machine.specs.declared.command.Opening.TheVariants as opening
 use Rattle.machine.specs.declared.command.Script.{Script}
+use Rattle.machine.specs.declared.reads.Encoding.{Encoding}
 use Rattle.machine.specs.declared.reply.Transcript.{Transcript}
-use Rattle.machine.specs.Answers.{opening_text, Matches}
+use Rattle.machine.specs.Answers.{Matches}
 use Rattle.machine.specs.Lawful.{IsLawful}
 use Rattle.script.specs.declared.refusal.ScriptRefusal.{ScriptRefusal}
 use Rattle.script.specs.declared.refusal.ScriptRefusal.TheVariants as refusal
@@ -17,7 +22,11 @@ use Rattle.buffer_cli.specs.declared.answer.Unanswered.{Unanswered}
 use Rattle.buffer_cli.specs.declared.answer.Unanswered.TheVariants as unanswered
 use Rattle.buffer_cli.specs.declared.status.Status.{Status}
 use Rattle.buffer_cli.specs.declared.status.Status.TheVariants as status
+use Rattle.codecs.specs.Decoding.{decoded}
+use Rattle.buffer_cli.specs.declared.load.Unloaded.{Unloaded}
+use Rattle.buffer_cli.specs.declared.load.Unloaded.TheVariants as unloaded
 use Rattle.buffer_cli.specs.Input.{max_input}
+use Rattle.buffer_cli.specs.Load.{opened_with, IsFile, IsLongFile, IsLongText, OpensFile}
 use Rattle.buffer_cli.specs.Patterns.{told_hits, IsPatternAt}
 
 -- the words are the one word `run`
@@ -26,23 +35,24 @@ is_run_line [] = false
 is_run_line (word ∷ []) = bytes_eq (string_bytes word) (codes "run")
 is_run_line (word ∷ second ∷ rest) = false
 
--- A transcript is lawful for a script that opens with these units, where these hits are told of its patterns.
-pub record IsLawfulRun (script : Script) (told : List (Option Matches)) (transcript : Transcript) : Type 0 where
-  pub opening : List ℕ
-  pub opens : opening_text script.opening ≡ Some opening
-  pub lawful : IsLawful script opening told transcript
-
--- The bytes are a script's, and the text is that of a transcript that is lawful for it over the text that it opened with, by the
--- hits that `tells` tells of its patterns. The text has the transcript's JSON value.
-pub record IsAnswer (tells : List ℕ → Option Matches) (bytes text : List ℕ) : Type 0 where
-  pub script : Script
-  pub read : script_in bytes ≡ Some script
-  pub opening : List ℕ
-  pub opens : opening_text script.opening ≡ Some opening
+-- The text is that of a transcript that is lawful for a script that opens with these units, where these hits are told of its patterns. It
+-- has the transcript's JSON value.
+pub record IsWritten (script : Script) (opening : List ℕ) (told : List (Option Matches)) (text : List ℕ) : Type 0 where
   pub transcript : Transcript
-  pub lawful : IsLawful script opening (told_hits tells script) transcript
+  pub lawful : IsLawful script opening told transcript
   pub written : text ≡ transcript_text transcript
   pub reads_back : document text ≡ Some (transcript_value transcript)
+
+-- The bytes are a script's, and the text is that of a transcript that is lawful for it over the text that it opened with, by the
+-- hits that `tells` tells of its patterns. A script that opens a file opens with what all bytes of that file are read as, in the
+-- encoding that it names; these are the bytes that the name had before the run, where the folder tells them.
+pub record IsAnswer (tells : List ℕ → Option Matches) (files : Option Files) (bytes text : List ℕ) : Type 0 where
+  pub script : Script
+  pub read : script_in bytes ≡ Some script
+  pub file : List ℕ
+  pub opens : IsFile script.opening files file
+  pub short : length (opened_with script.opening file) ≤ MAX_UNITS
+  pub written : IsWritten script (opened_with script.opening file) (told_hits tells script) text
 
 -- the bytes are a script's that reads a pattern at this place, the one that was refused last where that is told
 pub record IsPatternRefused (bytes : List ℕ) (last : Option (List ℕ)) (session command : ℕ) : Type 0 where
@@ -51,12 +61,14 @@ pub record IsPatternRefused (bytes : List ℕ) (last : Option (List ℕ)) (sessi
   pub at : IsPatternAt script last session command
 
 -- what a run did outside: the bytes that it read, what the input has left, what the maker of matchers tells of patterns and which
--- it refused last, and what the output took before the run and after it
+-- it refused last, the files that the folder tells before the run and after it, and what the output took before it and after it
 pub record Outside : Type 0 where
   pub bytes : List ℕ
   pub left : Option (List ℕ)
   pub tells : List ℕ → Option Matches
   pub last : Option (List ℕ)
+  pub files : Option Files
+  pub files_after : Option Files
   pub before : Option (List ℕ)
   pub after : Option (List ℕ)
 
@@ -68,36 +80,89 @@ IsWhole o = (length o.bytes ≤ max_input) × IsAtEnd o.left
 abbrev pub IsUnwritten : Outside → Type 0
 IsUnwritten o = o.after ≡ o.before
 
+-- no file was changed
+abbrev pub IsUnsaved : Outside → Type 0
+IsUnsaved o = KeepsAll o.files o.files_after
+
+-- neither was anything written nor a file changed
+abbrev pub IsUntouched : Outside → Type 0
+IsUntouched o = IsUnwritten o × IsUnsaved o
+
+-- the script opens a file, whose reading failed: every other name is as it was
+pub record IsUnloaded (o : Outside) : Type 0 where
+  pub name : List ℕ
+  pub encoding : Encoding
+  pub opens : OpensFile o.bytes name encoding
+  pub others : KeepsOthers name o.files o.files_after
+
+-- the script opens a file that has too many bytes
+pub record IsFileTooLong (bytes : List ℕ) (files : Option Files) : Type 0 where
+  pub name : List ℕ
+  pub encoding : Encoding
+  pub opens : OpensFile bytes name encoding
+  pub long : IsLongFile name files
+
+-- the script opens a file whose text has too many units
+pub record IsTextTooLong (bytes : List ℕ) (files : Option Files) : Type 0 where
+  pub name : List ℕ
+  pub encoding : Encoding
+  pub opens : OpensFile bytes name encoding
+  pub long : IsLongText name encoding files
+
 -- What a status says of what the run did outside.
 abbrev pub Explains : Status → Outside → Type 0
-Explains status.Done o = IsWhole o × ((text : List ℕ) × IsAnswer o.tells o.bytes text × Appends text o.before o.after)
-Explains status.Usage o = (o.bytes ≡ []) × IsUnwritten o
-Explains (status.ScriptRefused session command why) o = IsWhole o × (script_place o.bytes ≡ Some (session, command, why)) × IsUnwritten o
-Explains status.ReadFault o = (length o.bytes ≤ max_input) × IsUnwritten o
-Explains status.WriteFault o = IsWhole o × ((text : List ℕ) × IsAnswer o.tells o.bytes text × AppendsPrefix text o.before o.after)
-Explains (status.PatternRefused session command) o = IsWhole o × IsPatternRefused o.bytes o.last session command × IsUnwritten o
-Explains status.InputTooLong o = (length o.bytes ≡ max_input + 1) × IsUnwritten o
-Explains status.NoMemory o = (length o.bytes ≤ max_input + 1) × IsUnwritten o
+Explains status.Done o = IsWhole o × ((text : List ℕ) × IsAnswer o.tells o.files o.bytes text × Appends text o.before o.after) × IsUnsaved o
+Explains status.Usage o = (o.bytes ≡ []) × IsUntouched o
+Explains (status.ScriptRefused session command why) o = IsWhole o × (script_place o.bytes ≡ Some (session, command, why)) × IsUntouched o
+Explains status.ReadFault o = (length o.bytes ≤ max_input) × IsUntouched o
+Explains status.WriteFault o = IsWhole o × ((text : List ℕ) × IsAnswer o.tells o.files o.bytes text × AppendsPrefix text o.before o.after) × IsUnsaved o
+Explains (status.PatternRefused session command) o = IsWhole o × IsPatternRefused o.bytes o.last session command × IsUntouched o
+Explains status.InputTooLong o = ((length o.bytes ≡ max_input + 1) ⊎ (IsWhole o × IsFileTooLong o.bytes o.files)) × IsUntouched o
+Explains status.NoMemory o = (length o.bytes ≤ max_input + 1) × IsUntouched o
+Explains status.LoadFault o = IsWhole o × IsUnloaded o × IsUnwritten o
+Explains status.TextTooLong o = IsWhole o × IsTextTooLong o.bytes o.files × IsUntouched o
 
 -- a pattern was refused
 abbrev pub refuses_pattern : Status → Bool
 refuses_pattern (status.PatternRefused session command) = true
 refuses_pattern _ = false
 
+-- the status of a script that opens a file with these bytes, in this encoding
+abbrev pub status_of_file : Encoding → List ℕ → Status
+status_of_file encoding file = if nat_lt max_input (length file) then status.InputTooLong else (if nat_lt MAX_UNITS (length (decoded encoding file)) then status.TextTooLong else status.Done)
+
+-- the status of a script that breaks no rule: a file gives one where the folder tells its files
+abbrev pub status_of_opening : Option Files → Opening → Option Status
+status_of_opening told (opening.Text text) = Some status.Done
+status_of_opening None (opening.File name encoding) = None
+status_of_opening (Some files) (opening.File name encoding) = Some (status_of_file encoding (bytes_of files name))
+
 -- the status of a script, by the place where it is refused
-abbrev pub status_of : Option (ℕ × ℕ × ScriptRule) → Status
-status_of None = status.Done
-status_of (Some place) = status.ScriptRefused place.0 place.1 place.2
+abbrev pub status_of : Option Files → Option (ℕ × ℕ × ScriptRule) → Option Script → Option Status
+status_of told (Some place) script = Some (status.ScriptRefused place.0 place.1 place.2)
+status_of told None None = Some status.Done
+status_of told None (Some script) = status_of_opening told script.opening
 
--- the status of an input where nothing fails
-abbrev pub expected : List ℕ → Status
-expected bytes = if nat_lt max_input (length bytes) then status.InputTooLong else status_of (script_place bytes)
+-- The status of an input where nothing fails, by the files that the folder tells. There is none where the script opens a file, and
+-- the folder tells none.
+abbrev pub expected : List ℕ → Option Files → Option Status
+expected bytes told = if nat_lt max_input (length bytes) then Some status.InputTooLong else status_of told (script_place bytes) (script_in bytes)
 
--- why a script has no answer: the place that breaks a rule, or that of a pattern that was refused
-abbrev pub IsCause : List ℕ → Option (List ℕ) → Unanswered → Type 0
-IsCause bytes last (unanswered.ScriptRefused session command why) = script_place bytes ≡ Some (session, command, why)
-IsCause bytes last (unanswered.PatternRefused session command) = IsPatternRefused bytes last session command
-IsCause bytes last unanswered.NoMemory = Unit {0}
+-- Why a script has no answer: the place that breaks a rule, that of a pattern that was refused, or its file. Every name of the folder
+-- is as it was, but for the name of a file whose reading failed.
+abbrev pub IsCause : List ℕ → Option (List ℕ) → Option Files → Option Files → Unanswered → Type 0
+IsCause bytes last files after (unanswered.ScriptRefused session command why) = (script_place bytes ≡ Some (session, command, why)) × KeepsAll files after
+IsCause bytes last files after (unanswered.PatternRefused session command) = IsPatternRefused bytes last session command × KeepsAll files after
+IsCause bytes last files after unanswered.LoadFault = (name : List ℕ) × (encoding : Encoding) × OpensFile bytes name encoding × KeepsOthers name files after
+IsCause bytes last files after unanswered.InputTooLong = IsFileTooLong bytes files × KeepsAll files after
+IsCause bytes last files after unanswered.TextTooLong = IsTextTooLong bytes files × KeepsAll files after
+IsCause bytes last files after unanswered.NoMemory = KeepsAll files after
+
+-- why a script that was read, over its text, has no answer
+abbrev pub IsRunCause : Script → Option (List ℕ) → Unanswered → Type 0
+IsRunCause script last (unanswered.PatternRefused session command) = IsPatternAt script last session command
+IsRunCause script last unanswered.NoMemory = Unit {0}
+IsRunCause script last _ = ⊥
 
 -- it was a pattern
 abbrev pub is_of_pattern : Unanswered → Bool
@@ -107,3 +172,17 @@ is_of_pattern _ = false
 abbrev pub of_script : ScriptRefusal → Unanswered
 of_script (refusal.Refused session command why) = unanswered.ScriptRefused session command why
 of_script refusal.NoMemory = unanswered.NoMemory
+
+abbrev pub of_file : Unloaded → Unanswered
+of_file unloaded.Failed = unanswered.LoadFault
+of_file unloaded.TooLong = unanswered.InputTooLong
+of_file unloaded.TextTooLong = unanswered.TextTooLong
+of_file unloaded.NoMemory = unanswered.NoMemory
+
+abbrev pub of_answer : Unanswered → Status
+of_answer (unanswered.ScriptRefused session command why) = status.ScriptRefused session command why
+of_answer (unanswered.PatternRefused session command) = status.PatternRefused session command
+of_answer unanswered.LoadFault = status.LoadFault
+of_answer unanswered.InputTooLong = status.InputTooLong
+of_answer unanswered.TextTooLong = status.TextTooLong
+of_answer unanswered.NoMemory = status.NoMemory

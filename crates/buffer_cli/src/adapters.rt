@@ -1,6 +1,6 @@
 //! The trusted edge: standard input as a source, and standard output as a sink. They tell nothing of
 //! the bytes that pass. Each counts its faults from 0 on: a call raises the count exactly where it fails.
-ghost use Rattle.std.specs.Prelude.{◌≡◌, ◌≤◌, length, None, IfOk, OnOk, OnErr};
+ghost use Rattle.std.specs.Prelude.{◌≡◌, ◌≤◌, length, nat_lt, None, IfOk, OnOk, OnErr};
 ghost use Rattle.outer.specs.Count.{Rose, counted};
 
 use outer::{Failed, Sink, Source};
@@ -10,7 +10,7 @@ use std::io;
 #[derive(Debug, Drop)]
 pub(crate) struct Reading<R> {
     reader: R,
-    faults: u64,
+    pub(crate) faults: u64,
 }
 
 impl<R> Reading<R> {
@@ -18,6 +18,13 @@ impl<R> Reading<R> {
         ensures { result.faults ≡ 0 }
     {
         Reading { reader, faults: 0 }
+    }
+
+    /// Whether a read failed.
+    pub(crate) fn has_failed(&self) -> bool
+        ensures { result ≡ nat_lt 0 self.now.faults }
+    {
+        self.faults > 0
     }
 }
 
@@ -47,7 +54,7 @@ impl<R: io::Read> Source for Reading<R> {
 #[derive(Debug, Drop)]
 pub(crate) struct Writing<W> {
     writer: W,
-    faults: u64,
+    pub(crate) faults: u64,
 }
 
 impl<W> Writing<W> {
@@ -55,6 +62,13 @@ impl<W> Writing<W> {
         ensures { result.faults ≡ 0 }
     {
         Writing { writer, faults: 0 }
+    }
+
+    /// Whether a put or a flush failed.
+    pub(crate) fn has_failed(&self) -> bool
+        ensures { result ≡ nat_lt 0 self.now.faults }
+    {
+        self.faults > 0
     }
 
     #[cfg(test)]

@@ -1,14 +1,18 @@
-//! The program: it runs a script from standard input, and writes its transcript to standard output.
+//! The program: it runs a script from standard input, over files of the current folder, and writes its transcript to standard output.
 //!
 //! A run goes through these modules: `input` reads the script's bytes, `answer` turns them into those
-//! of the transcript, `matchers` makes the matchers of its patterns, `session` answers each command by calls of the buffer,
+//! of the transcript, `load` reads the file that the script opens, `matchers` makes the matchers of its patterns, `session` answers each command by calls of the buffer,
 //! `reads` answers the reads of a snapshot, and `output` writes the bytes.
 //! `run` joins them, and its contract says what the program does.
 #![tactic(auto)]
 
 mod adapters;
 mod answer;
+#[cfg(test)]
+mod file_tests;
+mod folder;
 mod input;
+mod load;
 mod matchers;
 mod output;
 mod reads;
@@ -21,6 +25,7 @@ mod tests;
 mod unheard;
 
 use adapters::{Reading, Writing};
+use folder::CurrentFolder;
 use points::MAX_WATCHERS;
 use regexes::RegexMaker;
 pub use run::run_script;
@@ -67,12 +72,14 @@ fn run_program(rt: &HostRuntime) -> Status {
     }
     let mut input = Reading::new(rt.reader());
     let mut output = Writing::new(io::writer(rt));
+    let mut folder = CurrentFolder::new(rt);
     let mut patterns = RegexMaker::new();
     run_script(
         alloc,
         words.as_slice(),
         &mut input,
         &mut output,
+        &mut folder,
         &mut patterns,
         watchers,
     )

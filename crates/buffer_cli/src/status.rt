@@ -29,10 +29,14 @@ pub enum Status {
         session: u32,
         command: u32,
     },
-    /// The input has more than 2^26 bytes.
+    /// The input, or the file that the script opens, has more than 2^26 bytes.
     InputTooLong,
     /// There was no memory for it.
     NoMemory,
+    /// The file that the script opens couldn't be read.
+    LoadFault,
+    /// The text of the file that the script opens has more than 2^24 units.
+    TextTooLong,
 }
 
 impl Status {
@@ -49,6 +53,8 @@ impl Status {
             Status::PatternRefused { .. } => 7,
             Status::InputTooLong => 8,
             Status::NoMemory => 9,
+            Status::LoadFault => 10,
+            Status::TextTooLong => 11,
         }
     }
 
@@ -95,6 +101,8 @@ impl fmt::Display for Fault {
             }
             Status::InputTooLong => f.write_str("input too long"),
             Status::NoMemory => f.write_str("out of memory"),
+            Status::LoadFault => f.write_str("cannot load"),
+            Status::TextTooLong => f.write_str("text too long"),
         }
     }
 }

@@ -7,8 +7,8 @@ use crate::{Status, run_script};
 use buffer::Buffer;
 use machine::{CallRefusal, Command, Reply, Text};
 use outer::{
-    LiteralMaker, MakeRefusal, Matcher, MemSink, MemSource, PatternMaker, Sink, Source, Spans,
-    SureMaker, SureSink, SureSource,
+    Folder, LiteralMaker, MakeRefusal, Matcher, MemFolder, MemSink, MemSource, PatternMaker, Sink,
+    Source, Spans, SureFolder, SureMaker, SureSink, SureSource,
 };
 use points::{MAX_WATCHERS, Point, Range};
 use script::ScriptRule;
@@ -26,13 +26,13 @@ const HI_TRANSCRIPT: &str = "{\"end\":{\"count\":2,\"text\":\"hi\"},\"sessions\"
     {\"at\":2,\"text\":\"hi\",\"units\":2}]],\"version\":1}\n";
 
 /// This many bytes of one value.
-fn repeated(alloc: Global, byte: u8, count: usize) -> Result<Vec<u8>, AllocError> {
+pub(crate) fn repeated(alloc: Global, byte: u8, count: usize) -> Result<Vec<u8>, AllocError> {
     let mut bytes = vec![in alloc; 0u8; count]?;
     bytes.as_mut_slice().fill(byte);
     Ok(bytes)
 }
 
-fn words(alloc: Global, list: &[&str]) -> Result<Vec<String>, AllocError> {
+pub(crate) fn words(alloc: Global, list: &[&str]) -> Result<Vec<String>, AllocError> {
     let mut words = Vec::new(alloc);
     for word in list {
         words.push(String::from_str(alloc, word)?)?;
@@ -41,11 +41,12 @@ fn words(alloc: Global, list: &[&str]) -> Result<Vec<String>, AllocError> {
 }
 
 /// Runs a script with watchers that keep nothing of what they hear.
-fn run_watched<I: Source, O: Sink, P: PatternMaker>(
+pub(crate) fn run_watched<I: Source, O: Sink, F: Folder, P: PatternMaker>(
     alloc: Global,
     words: &[String],
     input: &mut I,
     output: &mut O,
+    folder: &mut F,
     patterns: &mut P,
 ) -> Option<Status> {
     let mut watchers: Vec<Box<dyn Watcher>> = Vec::new(alloc);
@@ -56,7 +57,7 @@ fn run_watched<I: Source, O: Sink, P: PatternMaker>(
     if watchers.len() != MAX_WATCHERS || !are_unheard(watchers.as_slice()) {
         return None;
     }
-    Some(run_script(alloc, words, input, output, patterns, watchers))
+    Some(run_script(alloc, words, input, output, folder, patterns, watchers))
 }
 
 /// Runs a script in memory, with calls of the input and of the output that fail.
@@ -70,12 +71,14 @@ fn run(
     let words = words(alloc, line)?;
     let mut input = MemSource::new(script, read_fails);
     let mut output = MemSink::new(alloc, 4096, put_fails)?;
+    let mut folder = MemFolder::new(Vec::new(alloc), Vec::new(alloc));
     let mut patterns = LiteralMaker::new(Vec::new(alloc));
     let status = run_watched(
         alloc,
         words.as_slice(),
         &mut input,
         &mut output,
+        &mut folder,
         &mut patterns,
     )
     .ok_or("watchers")?;
@@ -176,12 +179,14 @@ fn end_of_patterns(alloc: Global, refused: u64) -> Option<Status> {
     let words = words(alloc, &["run"]).ok()?;
     let mut input = MemSource::new(PATTERNS.as_bytes().to_vec(alloc).ok()?, Vec::new(alloc));
     let mut output = MemSink::new(alloc, 4096, Vec::new(alloc)).ok()?;
+    let mut folder = MemFolder::new(Vec::new(alloc), Vec::new(alloc));
     let mut patterns = LiteralMaker::new(call(alloc, refused).ok()?);
     let status = run_watched(
         alloc,
         words.as_slice(),
         &mut input,
         &mut output,
+        &mut folder,
         &mut patterns,
     )?;
     if status != Status::Done && !output.bytes().is_empty() {
@@ -222,7 +227,7 @@ fn ends(
 }
 
 /// The list of the number of one call; no call has the number 0.
-fn call(alloc: Global, number: u64) -> Result<Vec<u64>, AllocError> {
+pub(crate) fn call(alloc: Global, number: u64) -> Result<Vec<u64>, AllocError> {
     [number].to_vec(alloc)
 }
 
@@ -273,7 +278,16 @@ fn refuses_an_input_past_its_limit(rt: HostRuntime) -> Result<(), Fail> {
 fn runs_surely(alloc: Global, words: &[String]) -> Result<bool, Fail> {
     let mut input = SureSource::new(HI.as_bytes().to_vec(alloc)?);
     let mut output = SureSink::new(alloc, 4096)?;
-    let status = run_watched(alloc, words, &mut input, &mut output, &mut SureMaker::new());
+    let mut folder = SureFolder::new(Vec::new(alloc));
+    let mut patterns = SureMaker::new();
+    let status = run_watched(
+        alloc,
+        words,
+        &mut input,
+        &mut output,
+        &mut folder,
+        &mut patterns,
+    );
     Ok(status == Some(Status::Done) && output.bytes() == Some(HI_TRANSCRIPT.as_bytes()))
 }
 
@@ -366,6 +380,8 @@ fn prints_one_line_for_each_fault(rt: HostRuntime) -> Result<(), Fail> {
         (Status::WriteFault, 5, "cannot write the output"),
         (Status::InputTooLong, 8, "input too long"),
         (Status::NoMemory, 9, "out of memory"),
+        (Status::LoadFault, 10, "cannot load"),
+        (Status::TextTooLong, 11, "text too long"),
     ];
     for (status, code, line) in cases {
         assert!(rt; prints(rt.alloc(), status, code, line)?);

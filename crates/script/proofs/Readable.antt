@@ -1,5 +1,5 @@
 -- The scripts that are read: of what is built, their numbers within their limits.
-use Rattle.std.proofs.Common.{◌≡◌, List, [], ◌∷◌, length, Bool, true, is_some, refl}
+use Rattle.std.proofs.Common.{◌≡◌, List, [], ◌∷◌, length, Bool, true, refl}
 use Rattle.std.specs.List.{AllByRecursion, list_all}
 use Rattle.std.proofs.lemmas.Bool.{and_from, eq-eqb}
 use Rattle.machine.specs.declared.command.Command.{Command}
@@ -7,14 +7,12 @@ use Rattle.machine.specs.declared.command.Command.TheVariants as command
 use Rattle.machine.specs.declared.command.Script.{Script}
 use Rattle.machine.specs.declared.reads.Read.{Read}
 use Rattle.machine.specs.declared.reads.Read.TheVariants as read
-use Rattle.machine.specs.Answers.{opening_text}
 use Rattle.script.specs.Limits.{has_built_read, has_built_word, IsReadableRead, IsReadable}
 use Rattle.script.specs.ScriptValue.{is_built}
 
 pub record IsReadableScript (s : Script) : Type 0 where
   pub version : s.version ≡ 1
   pub one : length s.sessions ≡ 1
-  pub opening : is_some (opening_text s.opening) ≡ true
   pub commands : AllByRecursion (AllByRecursion IsReadable) s.sessions
 
 all_hold : {A : Type 0} (P : A → Type 0) (test : A → Bool) → ((x : A) → P x → test x ≡ true) → (xs : List A) → AllByRecursion P xs → list_all test xs ≡ true
@@ -57,4 +55,4 @@ each_built (cs ∷ rest) h = (session_built cs h.0, each_built rest h.1)
 
 -- it is built
 pub readable_built : (s : Script) → IsReadableScript s → is_built s ≡ true
-readable_built s h = rw (eq-eqb (length s.sessions) 1 h.one, h.opening) (all_hold (AllByRecursion IsReadable) (list_all has_built_word) (all_hold IsReadable has_built_word command_built) s.sessions h.commands)
+readable_built s h = rw (eq-eqb (length s.sessions) 1 h.one) (all_hold (AllByRecursion IsReadable) (list_all has_built_word) (all_hold IsReadable has_built_word command_built) s.sessions h.commands)

@@ -1,7 +1,7 @@
 -- The value of a script of what is built has no place that breaks a rule exactly where no place breaks one by the rules alone; and then
 -- the script is within its limits.
 use Rattle.std.proofs.Common.{◌≡◌, ◌+◌, ◌≤◌, ◌&&◌, ◌||◌, not, ℕ, suc, List, [], ◌∷◌, length, map, drop, count_by, Bool, true, false, cond, Option, Some, None, option_map, is_some, refl, sym, ap, subst, ◌∙◌, arith}
-use Rattle.std.specs.Prelude.{nat_lt, ◌==◌, codes, sum_by}
+use Rattle.std.specs.Prelude.{nat_lt, ◌==◌, codes, sum_by, unwrap_or, IfSome}
 use Rattle.std.specs.List.{AllByRecursion, list_all, list_any}
 use Rattle.std.specs.Option.{option_or}
 use Rattle.std.proofs.lemmas.Bool.Decides.{nat_tests}
@@ -25,10 +25,10 @@ use Rattle.script.specs.declared.limits.TheConstants.{MAX_SESSIONS, MAX_COMMANDS
 use Rattle.script.specs.declared.refusal.ScriptRule.{ScriptRule}
 use Rattle.script.specs.declared.refusal.ScriptRule.TheVariants.{BadShape, TooMany, UnknownSnapshot, SnapshotTaken, BadNumber, BadEncoding, EmptyNeedle}
 use Rattle.script.specs.Limits.{has_built_read, has_built_word, IsRangeWithin, IsReadableRead, IsReadable, readings_of, is_find, is_watch, is_in_turn, are_in_turn, has_needle, has_needles, IsWithinLimits}
-use Rattle.script.specs.Parts.{member_count, items_in, count_items, within, whole_of, range_of}
+use Rattle.script.specs.Parts.{member_count, items_in, count_items, string_in, within, whole_of, range_of}
 use Rattle.script.specs.ScriptDocument.{reading, script_of}
 use Rattle.script.specs.Rules.{Before, at_start, next, command_tests, command_breaks, read_breaks, any_item, wrong_kind, wrong_number, wrong_encoding, empty_needle, is_too_many, readings_in, names_one_of, live_after, one_if, needs_live, is_live, is_do, document_tests, Fault, first_broken, fault_at, is_document, is_version_one, opening_breaks, are_sessions, sessions_in, opened_text, place_in_session, place_in_sessions, after_commands, place_by, built_place, value_place, is_unbuilt, is_unbuilt_read, is_misshapen, is_misshapen_document, is_unbuilt_document}
-use Rattle.script.specs.ScriptValue.{range_value, read_value, command_value, script_value, is_built, BreaksNoRule}
+use Rattle.script.specs.ScriptValue.{range_value, read_value, command_value, opening_value, script_value, is_built, BreaksNoRule}
 use Rattle.script.specs.TranscriptDocument.{whole}
 use Rattle.script.proofs.KeyOrder.{IsInKeyOrder}
 use Rattle.script.proofs.Readable.{IsReadableScript, readable_built, each_built}
@@ -392,45 +392,46 @@ made version o sessions = record { version = version; opening = o; sessions = se
 -- a script of what is built
 record IsOfBuilt (s : Script) : Type 0 where
   one : length s.sessions ≡ 1
-  opening : is_some (opening_text s.opening) ≡ true
   words : list_all (list_all has_built_word) s.sessions ≡ true
 
 of_built : (s : Script) → is_built s ≡ true → IsOfBuilt s
 of_built s built =
-    let parts = and_parts (length s.sessions == 1) (is_some (opening_text s.opening) && list_all (list_all has_built_word) s.sessions) built in
-    let more = and_parts (is_some (opening_text s.opening)) (list_all (list_all has_built_word) s.sessions) parts.1 in
-    record { one = eqb-true _ _ parts.0; opening = more.0; words = more.1 }
+    let parts = and_parts (length s.sessions == 1) (list_all (list_all has_built_word) s.sessions) built in
+    record { one = eqb-true _ _ parts.0; words = parts.1 }
 
 parts_built : (n : ℕ) (o : Opening) (sessions : List (List Command)) → IsOfBuilt (made n o sessions) → value_place (script_value (made n o sessions)) ≡ None → built_place (script_value (made n o sessions)) ≡ None
 unfolding place_by
-parts_built n (opening.Text text) (cs ∷ []) of h =
-    let d = script_value (made n (opening.Text text) (cs ∷ [])) in
+parts_built n o (cs ∷ []) of h =
+    let d = script_value (made n o (cs ∷ [])) in
     let own = neither (fault_at 0 0 (document_tests true d)) (place_in_sessions true 1 at_start (sessions_in d)) h in
     let session = neither (place_in_session true 1 1 at_start (items_of (map command_value cs))) None own.1 in
     let document = other_first (is_misshapen_document true d) (is_misshapen_document false d) BadShape (drop 1 (document_tests true d)) (built_shape (is_unbuilt_document d) (not (is_document d)) refl) (no_fault 0 0 (document_tests true d) own.0) in
     both_none _ _ (fault_none 0 0 (document_tests false d) document) (both_none _ _ (session_built 1 1 at_start cs (and_parts (list_all has_built_word cs) true of.words).0 session.0) refl)
-parts_built n (opening.File name encoding) sessions of h = absurd (false≢true of.opening)
 parts_built n o [] of h = absurd (omega (arith, of.one))
 parts_built n o (cs ∷ ds ∷ rest) of h = absurd (omega (arith, of.one))
 
+-- the units of an opening that is a text
+opening_short : (o : Opening) → length (unwrap_or (option_map utf16_of (string_in (codes "text") (opening_value o))) []) ≤ MAX_UNITS → IfSome (opening_text o) (λ units. length units ≤ MAX_UNITS)
+opening_short (opening.Text text) h = h
+opening_short (opening.File name e) h = tt
+
 parts_within : (n : ℕ) (o : Opening) (sessions : List (List Command)) → IsOfBuilt (made n o sessions) → built_place (script_value (made n o sessions)) ≡ None → IsReadableScript (made n o sessions) × IsWithinLimits (made n o sessions)
 unfolding place_by
-parts_within n (opening.Text text) (cs ∷ []) of h =
-    let d = script_value (made n (opening.Text text) (cs ∷ [])) in
+parts_within n o (cs ∷ []) of h =
+    let d = script_value (made n o (cs ∷ [])) in
     let own = neither (fault_at 0 0 (document_tests false d)) (place_in_sessions false 1 at_start (sessions_in d)) h in
     let document = document_passes d own.0 in
     let version : (n == 1) ≡ true = version_is_one d (not-false (is_document d) (or_false (is_unbuilt_document d && true) (not (is_document d)) document.0).1) in
-    let units : length (utf16_of text) ≤ MAX_UNITS = ltb-false _ _ document.1 in
     let session = neither (place_in_session false 1 1 at_start (items_of (map command_value cs))) None own.1 in
     let words = (and_parts (list_all has_built_word cs) true of.words).0 in
     let roomy : IsRoomy at_start = record { commands = omega arith; reading = omega arith; finds = omega arith; watches = omega arith } in
     let is = session_within 1 1 at_start cs words roomy session.0 in
     let all : AllByRecursion (AllByRecursion IsReadable) (cs ∷ []) = (is.readable, tt) in (
-      record { version = eqb-true n 1 version; one = refl; opening = refl; commands = all },
+      record { version = eqb-true n 1 version; one = refl; commands = all },
       record {
         version = eqb-true n 1 version;
         one = refl;
-        opening = units;
+        opening = opening_short o (ltb-false _ _ document.1);
         commands = (omega (arith, is.commands), tt);
         readings = (omega (arith, is.readings), tt);
         finds = (omega (arith, is.finds), tt);
@@ -442,7 +443,6 @@ parts_within n (opening.Text text) (cs ∷ []) of h =
         live = (all_live [] cs is.turns, tt);
       },
     )
-parts_within n (opening.File name encoding) sessions of h = absurd (false≢true of.opening)
 parts_within n o [] of h = absurd (omega (arith, of.one))
 parts_within n o (cs ∷ ds ∷ rest) of h = absurd (omega (arith, of.one))
 

@@ -1,7 +1,7 @@
 -- A script of what is built is read again from its JSON value.
-use Rattle.std.proofs.Common.{◌≡◌, ◌+◌, ◌≤◌, ℕ, List, [], ◌∷◌, length, map, true, is_some, Some, refl, arith}
+use Rattle.std.proofs.Common.{◌≡◌, ◌+◌, ◌≤◌, ℕ, List, [], ◌∷◌, length, map, Some, refl, arith}
 use Rattle.std.specs.List.{AllByRecursion}
-use Rattle.std.proofs.lemmas.Bool.{le-leb, false≢true}
+use Rattle.std.proofs.lemmas.Bool.{le-leb}
 use Rattle.points.specs.declared.limits.TheConstants.{MAX_COORD}
 use Rattle.points.specs.declared.point.Point.{Point}
 use Rattle.points.specs.declared.range.Range.{Range}
@@ -14,12 +14,13 @@ use Rattle.machine.specs.declared.reads.Read.TheVariants as read
 use Rattle.machine.specs.declared.command.Opening.{Opening}
 use Rattle.machine.specs.declared.command.Opening.TheVariants as opening
 use Rattle.machine.specs.declared.command.Script.{Script}
-use Rattle.machine.specs.Answers.{opening_text}
+use Rattle.machine.specs.declared.reads.Encoding.{Encoding}
+use Rattle.machine.specs.declared.reads.Encoding.TheVariants as encoding
 use Rattle.script.specs.Limits.{IsRangeWithin, IsReadableRead, IsReadable}
 use Rattle.script.specs.declared.limits.TheConstants.{MAX_SHOWN, MAX_HITS, MAX_ID}
 use Rattle.script.specs.Parts.{within, coordinate, point_from, range_of}
-use Rattle.script.specs.ScriptDocument.{edit_of, look_of, ranged_of, bare_of, unmark_of, mark_range_of, exclusive_of, compare_of, mark_of, how_of, marks_of, watch_of, unwatch_of, on_marks_of, size_of, look_read_of, find_of, pattern_of, read_of, reads_of, take_of, read_command_of, release_of, on_snapshots_of, on_text_of, command_of, commands_of, session_of, sessions_of, opening_of, reading}
-use Rattle.script.specs.ScriptValue.{how_word, read_value, range_value, command_value, session_value, opening_value, script_value}
+use Rattle.script.specs.ScriptDocument.{edit_of, look_of, ranged_of, bare_of, unmark_of, mark_range_of, exclusive_of, compare_of, mark_of, how_of, marks_of, watch_of, unwatch_of, on_marks_of, size_of, look_read_of, find_of, pattern_of, read_of, reads_of, take_of, read_command_of, release_of, on_snapshots_of, on_text_of, command_of, commands_of, session_of, sessions_of, encoding_of, text_opening_of, file_opening_of, opening_of, reading}
+use Rattle.script.specs.ScriptValue.{encoding_word, how_word, read_value, range_value, command_value, session_value, opening_value, script_value}
 use Rattle.script.specs.TranscriptDocument.{list_value}
 use Rattle.script.proofs.Counting.{range_in_order}
 use Rattle.script.proofs.Readable.{IsReadableScript}
@@ -95,11 +96,18 @@ sessions_again [] one h = absurd (omega arith)
 sessions_again (cs ∷ []) one h = rw (session_again cs h.0) refl
 sessions_again (cs ∷ ds ∷ rest) one h = absurd (omega arith)
 
-opening_again : (o : Opening) → is_some (opening_text o) ≡ true → opening_of (opening_value o) ≡ Some o
-unfolding opening_of
-opening_again (opening.Text text) h = refl
-opening_again (opening.File name encoding) h = absurd (false≢true h)
+encoding_again : (e : Encoding) → encoding_of (encoding_word e) ≡ Some e
+unfolding encoding_of
+encoding_again encoding.Utf8 = refl
+encoding_again encoding.Utf16Le = refl
+encoding_again encoding.Utf16Be = refl
+encoding_again encoding.Latin1 = refl
+
+opening_again : (o : Opening) → opening_of (opening_value o) ≡ Some o
+unfolding opening_of text_opening_of file_opening_of
+opening_again (opening.Text text) = refl
+opening_again (opening.File name e) = rw (encoding_again e) refl
 
 pub reading_again : (s : Script) → IsReadableScript s → reading (script_value s) ≡ Some s
 unfolding reading
-reading_again s h = rw (h.version, opening_again s.opening h.opening, sessions_again s.sessions h.one h.commands) refl
+reading_again s h = rw (h.version, opening_again s.opening, sessions_again s.sessions h.one h.commands) refl

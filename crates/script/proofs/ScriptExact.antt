@@ -18,14 +18,15 @@ use Rattle.machine.specs.declared.reads.Read.TheVariants as read
 use Rattle.machine.specs.declared.command.Opening.{Opening}
 use Rattle.machine.specs.declared.command.Opening.TheVariants as opening
 use Rattle.machine.specs.declared.command.Script.{Script}
+use Rattle.machine.specs.declared.reads.Encoding.{Encoding}
+use Rattle.machine.specs.declared.reads.Encoding.TheVariants as encoding
 use Rattle.points.specs.declared.limits.TheConstants.{MAX_COORD}
-use Rattle.machine.specs.Answers.{opening_text}
 use Rattle.script.specs.Limits.{IsRangeWithin, IsReadableRead, IsReadable}
 use Rattle.script.specs.declared.limits.TheConstants.{MAX_SHOWN, MAX_HITS, MAX_ID}
-use Rattle.script.specs.ScriptDocument.{edit_of, look_of, ranged_of, bare_of, unmark_of, mark_range_of, exclusive_of, compare_of, mark_of, how_of, marks_of, watch_of, unwatch_of, on_marks_of, size_of, look_read_of, find_of, pattern_of, read_of, reads_of, take_of, listed_reads, read_command_of, release_of, on_snapshots_of, on_text_of, command_of, commands_of, session_of, sessions_of, opening_of, reading}
+use Rattle.script.specs.ScriptDocument.{edit_of, look_of, ranged_of, bare_of, unmark_of, mark_range_of, exclusive_of, compare_of, mark_of, how_of, marks_of, watch_of, unwatch_of, on_marks_of, size_of, look_read_of, find_of, pattern_of, read_of, reads_of, take_of, listed_reads, read_command_of, release_of, on_snapshots_of, on_text_of, command_of, commands_of, session_of, sessions_of, encoding_of, encoding_in, text_opening_of, file_opening_of, opening_of, reading}
 use Rattle.script.specs.Parts.{member_count, item_count, string_in, whole_of, whole_in, flag_in, coordinate, point_from, range_by, range_between, range_of, range_in, is_word}
 use Rattle.script.specs.Rules.{is_on_marks, is_on_snapshots, is_version_one, is_one}
-use Rattle.script.specs.ScriptValue.{how_word, read_value, range_value, command_value, session_value, opening_value, script_value}
+use Rattle.script.specs.ScriptValue.{encoding_word, how_word, read_value, range_value, command_value, session_value, opening_value, script_value}
 use Rattle.script.specs.TranscriptDocument.{whole, list_value}
 use Rattle.script.proofs.KeyLemmas.{Ascend, all_keys, two_members, three_members, four_members, one_member}
 use Rattle.script.proofs.KeyOrder.{IsInKeyOrder, ItemsInKeyOrder}
@@ -409,23 +410,23 @@ mark_exact d c sorted word e =
     subst (λ v. (d ≡ command_value v) × IsReadable v) is (p.4 ∙ cc (x, y, z.0, w.0), (z.1, w.1)))))
 
 -- one word of a table
-word_step : (s word : List ℕ) (x h : How) (o : Option How) → cond (bytes_eq s word) (Some x) o ≡ Some h → how_word x ≡ word → (o ≡ Some h → s ≡ how_word h) → s ≡ how_word h
-word_step s word x h o e is rest =
+word_step : {A : Type 0} (spelled : A → List ℕ) (s word : List ℕ) (x h : A) (o : Option A) → cond (bytes_eq s word) (Some x) o ≡ Some h → spelled x ≡ word → (o ≡ Some h → s ≡ spelled h) → s ≡ spelled h
+word_step spelled s word x h o e is rest =
     elim (either_some (bytes_eq s word) (Some x) o h e) [
-      | inl one ↦ (bytes_eq-Decides s word).0 one.0 ∙ sym is ∙ ap how_word (same_Some _ _ one.1)
+      | inl one ↦ (bytes_eq-Decides s word).0 one.0 ∙ sym is ∙ ap spelled (same_Some _ _ one.1)
       | inr other ↦ rest other
     ]
 
 how_exact : (s : List ℕ) (h : How) → how_of s ≡ Some h → s ≡ how_word h
 unfolding how_of
 how_exact s h e =
-    word_step s (codes "intersecting") how.Intersecting h _ e refl (λ e.
-    word_step s (codes "containing") how.Containing h _ e refl (λ e.
-    word_step s (codes "contained_in") how.ContainedIn h _ e refl (λ e.
-    word_step s (codes "starting_in") how.StartingIn h _ e refl (λ e.
-    word_step s (codes "starting_at") how.StartingAt h _ e refl (λ e.
-    word_step s (codes "ending_in") how.EndingIn h _ e refl (λ e.
-    word_step s (codes "ending_at") how.EndingAt h _ e refl (λ e. absurd (none-some h e))))))))
+    word_step how_word s (codes "intersecting") how.Intersecting h _ e refl (λ e.
+    word_step how_word s (codes "containing") how.Containing h _ e refl (λ e.
+    word_step how_word s (codes "contained_in") how.ContainedIn h _ e refl (λ e.
+    word_step how_word s (codes "starting_in") how.StartingIn h _ e refl (λ e.
+    word_step how_word s (codes "starting_at") how.StartingAt h _ e refl (λ e.
+    word_step how_word s (codes "ending_in") how.EndingIn h _ e refl (λ e.
+    word_step how_word s (codes "ending_at") how.EndingAt h _ e refl (λ e. absurd (none-some h e))))))))
 
 marks_exact : (d : Data) (c : Command) → IsInKeyOrder d → string_in (codes "do") d ≡ Some (codes "marks") → marks_of d ≡ Some c → (d ≡ command_value c) × IsReadable c
 unfolding marks_of
@@ -588,14 +589,40 @@ sessions_exact d sessions sorted e =
     let one = session_exact f.0 session sorted_inner.0 inner in
     subst (IsOneSession d) is (record { is = f.1 ∙ ap (λ v. array (item v no_items)) one.0; one = refl; commands = (one.1, tt) }))
 
-opening_exact : (d : Data) (o : Opening) → IsInKeyOrder d → opening_of d ≡ Some o → (d ≡ opening_value o) × (is_some (opening_text o) ≡ true)
-unfolding opening_of
-opening_exact d o sorted e =
+text_opening_exact : (d : Data) (o : Opening) → IsInKeyOrder d → text_opening_of d ≡ Some o → d ≡ opening_value o
+unfolding text_opening_of
+text_opening_exact d o sorted e =
     let t = test_some (member_count d == 1) _ o e in
     behind_map opening.Text (string_in (codes "text") d) o t.1 (λ text text_is is.
     let part = one_of (codes "text") d sorted (eqb-true (member_count d) 1 t.0) (there as_str _ _ text_is) in
     let x = string_exact part.0 text (subst (λ v. string_in (codes "text") v ≡ Some text) part.1 text_is) in
-    subst (λ v. (d ≡ opening_value v) × (is_some (opening_text v) ≡ true)) is (part.1 ∙ rw x refl, refl))
+    subst (λ v. d ≡ opening_value v) is (part.1 ∙ rw x refl))
+
+-- the word of an encoding
+encoding_exact : (s : List ℕ) (e : Encoding) → encoding_of s ≡ Some e → s ≡ encoding_word e
+unfolding encoding_of
+encoding_exact s e h =
+    word_step encoding_word s (codes "utf8") encoding.Utf8 e _ h refl (λ h.
+    word_step encoding_word s (codes "utf16le") encoding.Utf16Le e _ h refl (λ h.
+    word_step encoding_word s (codes "utf16be") encoding.Utf16Be e _ h refl (λ h.
+    word_step encoding_word s (codes "latin1") encoding.Latin1 e _ h refl (λ h. absurd (none-some e h)))))
+
+file_opening_exact : (d : Data) (o : Opening) → IsInKeyOrder d → file_opening_of d ≡ Some o → d ≡ opening_value o
+unfolding file_opening_of
+file_opening_exact d o sorted h =
+    let t = test_some (member_count d == 2) _ o h in
+    option_and_then_some (λ e. option_map (λ name. opening.File name e) (string_in (codes "file") d)) (encoding_in d) o t.1 (λ e e_is rest.
+    behind_map (λ name. opening.File name e) (string_in (codes "file") d) o rest (λ name name_is is.
+    option_and_then_some encoding_of (string_in (codes "encoding") d) e e_is (λ word word_is word_e.
+    let parts = two_of (codes "encoding") (codes "file") d ((refl, tt), (tt, tt)) sorted (eqb-true (member_count d) 2 t.0) (there as_str _ _ word_is) (there as_str _ _ name_is) in
+    let x = string_exact parts.0 word (subst (λ v. string_in (codes "encoding") v ≡ Some word) parts.2 word_is) in
+    let y = string_exact parts.1 name (subst (λ v. string_in (codes "file") v ≡ Some name) parts.2 name_is) in
+    subst (λ v. d ≡ opening_value v) is (parts.2 ∙ rw (x, y, encoding_exact word e word_e) refl))))
+
+opening_exact : (d : Data) (o : Opening) → IsInKeyOrder d → opening_of d ≡ Some o → d ≡ opening_value o
+unfolding opening_of
+opening_exact d o sorted e =
+    elim (either_some (is_some (get (codes "text") d)) (text_opening_of d) _ o e) [ inl text ↦ text_opening_exact d o sorted text.1 | inr file ↦ file_opening_exact d o sorted file ]
 
 one_exact : (o : Option ℕ) → is_one o ≡ true → o ≡ Some 1
 one_exact None e = absurd (true≢false (sym e))
@@ -623,7 +650,7 @@ value_parts d o sessions parts sorted opens found version =
     let x = opening_exact parts.first o within.1.0 (subst (λ v. option_and_then opening_of (get (codes "open") v) ≡ Some o) parts.is opens) in
     let y = sessions_exact parts.second sessions within.1.1.0 (subst (λ v. option_and_then sessions_of (get (codes "sessions") v) ≡ Some sessions) parts.is found) in
     let z : parts.third ≡ whole 1 = same_Some _ _ (subst (λ v. get (codes "version") v ≡ Some (whole 1)) parts.is version) in
-    (three_made (codes "open") (codes "sessions") (codes "version") d parts _ _ _ x.0 y.is z, record { version = refl; one = y.one; opening = x.1; commands = y.commands })
+    (three_made (codes "open") (codes "sessions") (codes "version") d parts _ _ _ x y.is z, record { version = refl; one = y.one; commands = y.commands })
 
 -- what is read as a script is its value, and is of what is built
 pub reading_exact : (d : Data) (s : Script) → IsInKeyOrder d → reading d ≡ Some s → (d ≡ script_value s) × IsReadableScript s

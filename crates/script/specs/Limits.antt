@@ -1,5 +1,5 @@
 -- The limits within which a script is read.
-use Rattle.std.specs.Prelude.{◌≡◌, ◌≤◌, ◌==◌, ◌&&◌, not, ℕ, nat_lt, List, [], ◌∷◌, length, count_by, sum_by, Bool, true, false, IsSomeAnd}
+use Rattle.std.specs.Prelude.{◌≡◌, ◌≤◌, ◌==◌, ◌&&◌, not, ℕ, nat_lt, List, [], ◌∷◌, length, count_by, sum_by, Bool, true, false, IfSome}
 use Rattle.std.specs.List.{AllByRecursion, list_all, list_any}
 use Rattle.points.specs.declared.limits.TheConstants.{MAX_UNITS, MAX_COORD, MAX_HANDS}
 use Rattle.points.specs.declared.range.Range.{Range}
@@ -124,12 +124,12 @@ has_needles c = true
 
 -- ---- the whole script
 
--- A script that was read: of version 1, over a text of so many units, with one session of so many commands. Each has a word that is built,
+-- A script that was read: of version 1, over a text of so many units or a file, with one session of so many commands. Each has a word that is built,
 -- its numbers within their limits and no empty needle; the numbers of snapshots are taken, read and released in turn.
 pub record IsWithinLimits (s : Script) : Type 0 where
   pub version : s.version ≡ 1
   pub one : length s.sessions ≡ 1
-  pub opening : IsSomeAnd (opening_text s.opening) (λ units. length units ≤ MAX_UNITS)
+  pub opening : IfSome (opening_text s.opening) (λ units. length units ≤ MAX_UNITS)
   pub commands : AllByRecursion (λ cs. length cs ≤ MAX_COMMANDS) s.sessions
   pub readings : AllByRecursion (λ cs. sum_by readings_of cs ≤ MAX_READINGS) s.sessions
   pub finds : AllByRecursion (λ cs. count_by is_find cs ≤ MAX_FINDS) s.sessions

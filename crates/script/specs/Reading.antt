@@ -1,7 +1,9 @@
 -- What a function that reads a part of a JSON value answers, and what a reader counts.
-use Rattle.std.specs.Prelude.{◌≡◌, ◌≤◌, ◌==◌, ◌||◌, not, ℕ, List, [], ◌∷◌, Bool, true, false, Option, Some, None, is_some, Result, Ok, Err, codes}
+use Rattle.std.specs.Prelude.{◌≡◌, ◌≤◌, ◌==◌, ◌||◌, not, nat_lt, ℕ, List, [], ◌∷◌, length, Bool, true, false, Option, Some, None, is_some, option_map, unwrap_or, Result, Ok, Err, codes}
+use Rattle.points.specs.Text.{utf16_of}
+use Rattle.points.specs.declared.limits.TheConstants.{MAX_UNITS}
 use Rattle.machine.specs.declared.command.Command.{Command}
-use Rattle.machine.specs.declared.command.Opening.TheVariants as opening
+use Rattle.machine.specs.declared.command.Opening.{Opening}
 use Rattle.machine.specs.declared.command.Script.{Script}
 use Rattle.script.specs.declared.before.Before.{Before}
 use Rattle.script.specs.declared.before.CommandFault.{CommandFault}
@@ -10,10 +12,11 @@ use Rattle.script.specs.declared.limits.TheConstants.{MAX_COMMANDS, MAX_READINGS
 use Rattle.script.specs.declared.parts.Misfit.{Misfit}
 use Rattle.script.specs.declared.parts.Misfit.TheVariants.{Shape, NoMemory}
 use Rattle.script.specs.declared.refusal.ScriptRule.{ScriptRule}
-use Rattle.script.specs.Parts.{items_in, member_count}
+use Rattle.script.specs.declared.refusal.ScriptRule.TheVariants.{BadShape, TooMany, BadEncoding, BadName}
+use Rattle.script.specs.Parts.{items_in, member_count, string_in}
 use Rattle.script.specs.Rows as kind
 use Rattle.script.specs.Rules as rules
-use Rattle.script.specs.Rules.{at_start, next, names_in, reads_in, is_too_many, any_item, is_unbuilt_read, read_breaks, field_breaks, wrong_kind, command_tests, first_broken}
+use Rattle.script.specs.Rules.{at_start, next, names_in, reads_in, is_too_many, any_item, is_unbuilt_read, read_breaks, field_breaks, wrong_kind, wrong_encoding, wrong_name, opening_breaks, command_tests, first_broken}
 use Rattle.script.specs.ScriptDocument.{command_of}
 use Rattle.serde_json.specs.Data.{Data}
 use Rattle.serde_json.specs.Find.{get, as_array}
@@ -64,6 +67,19 @@ abbrev pub FaultIs : Option ScriptRule → CommandFault → Type 0
 FaultIs broken (fault.Breaks why) = broken ≡ Some why
 FaultIs broken fault.NoMemory = Unit {0}
 
--- the script of one session that opens a text
-abbrev pub one_session : List ℕ → List Command → Script
-one_session text commands = record { version = 1; opening = opening.Text text; sessions = commands ∷ [] }
+-- the script of one session that opens so
+abbrev pub one_session : Opening → List Command → Script
+one_session o commands = record { version = 1; opening = o; sessions = commands ∷ [] }
+
+-- the units of an opening that is a text
+abbrev pub opened_units : Data → List ℕ
+opened_units o = unwrap_or (option_map utf16_of (string_in (codes "text") o)) []
+
+-- what the opening breaks, in the order of the rules
+abbrev pub opening_tests : Data → List (Bool × ScriptRule)
+opening_tests o =
+    (opening_breaks wrong_kind true (Some o), BadShape)
+    ∷ (nat_lt MAX_UNITS (length (opened_units o)), TooMany)
+    ∷ (opening_breaks wrong_encoding false (Some o), BadEncoding)
+    ∷ (opening_breaks wrong_name false (Some o), BadName)
+    ∷ []

@@ -274,9 +274,9 @@ are_sessions (item d ds) = not (any_item (λ session. not (is_some (as_array ses
 abbrev pub is_document : Data → Bool
 is_document d = (member_count d == 3) && (is_version_one d && (not (opening_breaks wrong_kind true (get (codes "open") d)) && are_sessions (sessions_in d)))
 
--- a document that isn't built: of other than one session, or with an opening that is no text
+-- a document that isn't built: of other than one session
 abbrev pub is_unbuilt_document : Data → Bool
-is_unbuilt_document d = not (count_items (sessions_in d) == 1) || not (is_some (option_and_then (get (codes "text")) (get (codes "open") d)))
+is_unbuilt_document d = not (count_items (sessions_in d) == 1)
 
 abbrev pub is_misshapen_document : Bool → Data → Bool
 is_misshapen_document all d = (is_unbuilt_document d && not all) || not (is_document d)

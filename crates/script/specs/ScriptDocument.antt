@@ -8,6 +8,8 @@ use Rattle.machine.specs.declared.command.How.TheVariants as how
 use Rattle.machine.specs.declared.command.Opening.{Opening}
 use Rattle.machine.specs.declared.command.Opening.TheVariants as opening
 use Rattle.machine.specs.declared.command.Script.{Script}
+use Rattle.machine.specs.declared.reads.Encoding.{Encoding}
+use Rattle.machine.specs.declared.reads.Encoding.TheVariants as encoding
 use Rattle.machine.specs.declared.reads.Read.{Read}
 use Rattle.machine.specs.declared.reads.Read.TheVariants as read
 use Rattle.script.specs.declared.refusal.ScriptRefusal.{ScriptRefusal}
@@ -150,9 +152,25 @@ session_of d = option_and_then commands_of (as_array d)
 unfoldable pub sessions_of : Data → Option (List (List Command))
 sessions_of d = if item_count d == 1 then option_map (λ session. session ∷ []) (option_and_then session_of (at 0 d)) else None
 
--- what a script opens: an object with the one member `text`
+-- what a script opens: an object with the one member `text`, or with the two members `file` and `encoding`
+unfoldable pub encoding_of : List ℕ → Option Encoding
+encoding_of s =
+    if bytes_eq s (codes "utf8") then Some encoding.Utf8
+    else (if bytes_eq s (codes "utf16le") then Some encoding.Utf16Le
+    else (if bytes_eq s (codes "utf16be") then Some encoding.Utf16Be
+    else (if bytes_eq s (codes "latin1") then Some encoding.Latin1 else None)))
+
+abbrev pub encoding_in : Data → Option Encoding
+encoding_in d = option_and_then encoding_of (string_in (codes "encoding") d)
+
+unfoldable pub text_opening_of : Data → Option Opening
+text_opening_of d = if member_count d == 1 then option_map opening.Text (string_in (codes "text") d) else None
+
+unfoldable pub file_opening_of : Data → Option Opening
+file_opening_of d = if member_count d == 2 then option_and_then (λ e. option_map (λ name. opening.File name e) (string_in (codes "file") d)) (encoding_in d) else None
+
 unfoldable pub opening_of : Data → Option Opening
-opening_of d = if member_count d == 1 then option_map opening.Text (string_in (codes "text") d) else None
+opening_of d = if is_some (get (codes "text") d) then text_opening_of d else file_opening_of d
 
 -- the script that a JSON value reads as: an object with the three members `version`, which is 1, `open` and `sessions`
 unfoldable pub reading : Data → Option Script
@@ -162,15 +180,12 @@ reading d = if (member_count d == 3) && is_version_one d then option_and_then (�
 unfoldable pub script_of : Data → Option Script
 script_of d = if is_some (built_place d) then None else reading d
 
--- the text that a script opens, and the commands of its session, where the document has the shape of what is built
-abbrev pub opened_in : Data → Option (List ℕ)
-opened_in d = if member_count d == 1 then string_in (codes "text") d else None
-
+-- the opening of a script, and the commands of its session, where the document has the shape of what is built
 abbrev pub session_in : Data → Option Items
 session_in d = if item_count d == 1 then option_and_then as_array (at 0 d) else None
 
-unfoldable pub head_of : Data → Option (List ℕ × Items)
-head_of d = if (member_count d == 3) && is_version_one d then option_and_then (λ text. option_map (λ ds. (text, ds)) (option_and_then session_in (get (codes "sessions") d))) (option_and_then opened_in (get (codes "open") d)) else None
+unfoldable pub head_of : Data → Option (Data × Items)
+head_of d = if (member_count d == 3) && is_version_one d then option_and_then (λ o. option_map (λ ds. (o, ds)) (option_and_then session_in (get (codes "sessions") d))) (get (codes "open") d) else None
 
 -- ---- from bytes to a script
 

@@ -1,5 +1,5 @@
 -- The JSON value of a script, and the scripts that break no rule.
-use Rattle.std.specs.Prelude.{◌≡◌, ℕ, List, ◌&&◌, ◌==◌, length, codes, Bool, None, is_some}
+use Rattle.std.specs.Prelude.{◌≡◌, ℕ, List, ◌&&◌, ◌==◌, length, codes, Bool, None}
 use Rattle.std.specs.List.{list_all}
 use Rattle.points.specs.declared.range.Range.{Range}
 use Rattle.machine.specs.declared.command.BatchEdit.{BatchEdit}
@@ -14,7 +14,6 @@ use Rattle.machine.specs.declared.reads.Encoding.{Encoding}
 use Rattle.machine.specs.declared.reads.Encoding.TheVariants as encoding
 use Rattle.machine.specs.declared.reads.Read.{Read}
 use Rattle.machine.specs.declared.reads.Read.TheVariants as read
-use Rattle.machine.specs.Answers.{opening_text}
 use Rattle.script.specs.Limits.{has_built_word}
 use Rattle.script.specs.Rules.{value_place}
 use Rattle.script.specs.TranscriptDocument.{whole, list_value}
@@ -93,6 +92,6 @@ script_value s =
 abbrev pub BreaksNoRule : Script → Type 0
 BreaksNoRule s = value_place (script_value s) ≡ None
 
--- a script of what is built: one session over a text, of commands whose words are built
+-- a script of what is built: one session, of commands whose words are built
 abbrev pub is_built : Script → Bool
-is_built s = (length s.sessions == 1) && (is_some (opening_text s.opening) && list_all (list_all has_built_word) s.sessions)
+is_built s = (length s.sessions == 1) && list_all (list_all has_built_word) s.sessions

@@ -3,7 +3,7 @@ ghost use Rattle.std.specs.Prelude.{◌≡◌, length};
 ghost use Rattle.points.specs.Text.{utf16_of};
 
 /// The UTF-16 units of a text. It takes no memory.
-pub(crate) fn units_of(text: &str) -> usize
+pub fn units_of(text: &str) -> usize
     ensures { result ≡ length (utf16_of text.now) }
 {
     if text.is_ascii() {

@@ -11,6 +11,7 @@ mod commands;
 mod count;
 pub mod document_laws;
 mod limits;
+mod opening;
 mod parts;
 mod read;
 mod reads;
@@ -21,6 +22,7 @@ mod snapshots;
 pub mod values;
 mod write;
 
+pub use count::units_of;
 pub use limits::{
     MAX_COMMANDS, MAX_FINDS, MAX_HITS, MAX_ID, MAX_NAME, MAX_READINGS, MAX_SAVES, MAX_SESSIONS,
     MAX_SHOWN, MAX_WATCHES,

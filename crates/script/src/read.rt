@@ -1,20 +1,19 @@
 //! From bytes to a script.
 ghost use Rattle.std.specs.Prelude.{◌≡◌, false, Some, None, IfOk, IfErr};
 ghost use Rattle.serde_json.specs.View.{view, items_view};
-ghost use Rattle.script.specs.ScriptDocument.{commands_of, opened_in, session_in, head_of, script_of, document, script_in, script_place, IsRefusalAt};
+ghost use Rattle.script.specs.ScriptDocument.{commands_of, session_in, head_of, script_of, document, script_in, script_place, IsRefusalAt};
 ghost use Rattle.script.specs.Rules.{at_start, command_tests, first_broken, is_version_one, place_in_session, built_place};
 ghost use Rattle.script.specs.Reading.{Gives, IsFew, IsRead, FaultIs, counted, one_session};
 ghost use Rattle.script.specs.Limits.{IsWithinLimits};
 
 use crate::before::{Before, CommandFault};
 use crate::commands::command_of;
-use crate::count::units_of;
-use crate::parts::{Misfit, item_count, member, member_count, string_in};
+use crate::opening::read_opening;
+use crate::parts::{Misfit, item_count, member, member_count};
 use crate::reads::has_needles;
 use crate::refusal::{ScriptRefusal, ScriptRule};
 use crate::shape::is_misshapen;
-use machine::{Command, Opening, Script, Sequence, Text};
-use points::MAX_UNITS;
+use machine::{Command, Opening, Script, Sequence};
 use serde_json::Value;
 use std::alloc::Global;
 
@@ -97,16 +96,6 @@ fn session_in<'v>(value: &'v Value) -> Result<&'v [Value], Misfit>
     Ok(items.as_slice())
 }
 
-// The text that a script opens.
-fn opened_in<'v>(value: &'v Value) -> Result<&'v str, Misfit>
-    ensures { Gives (λ text. text.now) result (opened_in (view value.now)) }
-{
-    if member_count(value) != 1 {
-        return Err(Misfit::Shape);
-    }
-    string_in(value, "text")
-}
-
 // The version is the number 1.
 fn is_version_one(value: &Value) -> bool
     ensures { result ≡ is_version_one (view value.now) }
@@ -117,36 +106,39 @@ fn is_version_one(value: &Value) -> bool
     }
 }
 
-// What a document has beside its version: the text that it opens, and the commands of its session.
+// What a document has beside its version: its opening, and the commands of its session.
 #[derive(Drop)]
 struct Head<'v> {
-    text: &'v str,
+    opening: &'v Value,
     commands: &'v [Value],
 }
 
 #[tactic(auto, unfolding(crate::specs::ScriptDocument::head_of))]
 fn head_of<'v>(value: &'v Value) -> Result<Head<'v>, Misfit>
-    ensures { Gives (λ h. (h.text.now, items_view h.commands.now)) result (head_of (view value.now)) }
+    ensures { Gives (λ h. (view h.opening.now, items_view h.commands.now)) result (head_of (view value.now)) }
 {
     if member_count(value) != 3 || !is_version_one(value) {
         return Err(Misfit::Shape);
     }
-    let text = opened_in(member(value, "open")?)?;
+    let opening = member(value, "open")?;
     let commands = session_in(member(value, "sessions")?)?;
-    Ok(Head { text, commands })
+    Ok(Head { opening, commands })
 }
 
 // The script of these parts.
-fn script_from(alloc: Global, text: &str, commands: Vec<Command>) -> Result<Script, ScriptRefusal>
-    ensures made { IfOk result (λ s. s ≡ one_session text.now commands.items) }
+fn script_from(
+    alloc: Global,
+    opening: Opening,
+    commands: Vec<Command>,
+) -> Result<Script, ScriptRefusal>
+    ensures made { IfOk result (λ s. s ≡ one_session opening commands.items) }
     ensures fails { IfErr result (λ r. r ≡ ScriptRefusal.NoMemory) }
 {
-    let text = Text::from_str(alloc, text)?;
     let mut sessions = Vec::new(alloc);
     sessions.push(Sequence::new(commands))?;
     Ok(Script {
         version: 1,
-        opening: Opening::Text { text },
+        opening,
         sessions: Sequence::new(sessions),
     })
 }
@@ -172,11 +164,13 @@ fn read_value(alloc: Global, value: &Value) -> Result<Script, ScriptRefusal>
         Err(Misfit::Shape) => return Err(refused(ScriptRule::BadShape)),
         Err(Misfit::NoMemory) => return Err(ScriptRefusal::NoMemory),
     };
-    if units_of(head.text) > MAX_UNITS {
-        return Err(refused(ScriptRule::TooMany));
-    }
+    let opening = match read_opening(alloc, head.opening) {
+        Ok(opening) => opening,
+        Err(CommandFault::Breaks { why }) => return Err(refused(why)),
+        Err(CommandFault::NoMemory) => return Err(ScriptRefusal::NoMemory),
+    };
     match commands_of(alloc, head.commands) {
-        Ok(commands) => script_from(alloc, head.text, commands),
+        Ok(commands) => script_from(alloc, opening, commands),
         Err(refusal) => Err(refusal),
     }
 }

@@ -1,7 +1,5 @@
-use Rattle.std.proofs.Common.{◌≡◌, ℕ, ◌≤◌, List, length, map, refl, sym, subst, ap, ◌∙◌, arith}
-use Rattle.std.specs.Prelude.{Option, IsSomeAnd}
+use Rattle.std.proofs.Common.{◌≡◌, ℕ, List, length, map, refl, sym, subst, ap, ◌∙◌, arith}
 use Rattle.points.specs.Text.{utf16_of, text_of}
-use Rattle.points.specs.declared.limits.TheConstants.{MAX_UNITS}
 use Rattle.points.proofs.WellFormedLemmas.{well_formed-utf16_of}
 use Rattle.machine.specs.declared.command.Command.{Command}
 use Rattle.machine.specs.Machine.{State, opened, after}
@@ -36,22 +34,17 @@ answer_all-requires-clause-whole g c = λ κs lives. subst AreWhole (sym c.new.e
 
 pub answer_all-requires-clause-sound : goal.answer_all-requires-clause-sound
 answer_all-requires-clause-sound g c = λ κs lives.
-    let short : length (utf16_of c.opening_text.result.now) ≤ MAX_UNITS = subst (λ (o : Option (List ℕ)). IsSomeAnd o (λ units. length units ≤ MAX_UNITS)) c.opening_text.ensures c.requires.limits.opening in
-    subst IsSound (sym c.in_ok-open.ensures.state) (sound_opened (utf16_of c.opening_text.result.now) short (well_formed-utf16_of c.opening_text.result.now c.opening_text.utf8))
+    subst IsSound (sym c.in_ok-open.ensures.state) (sound_opened (utf16_of c.args.text.now) c.requires.short (well_formed-utf16_of c.args.text.now c.utf8.text))
 
 pub returns : goal.returns
 returns g c =
-    let opening : List ℕ = utf16_of c.opening_text.result.now in
+    let opening : List ℕ = utf16_of c.args.text.now in
     let commands : List Command = c.commands_of.result.now in
     let reached : state_of c.answer_all.new.session.buffer ≡ after (opened opening) (calls_of commands) =
     c.in_ok-replies.ensures.after ∙ ap (λ (s : State). after s (calls_of commands)) c.in_ok-open.ensures.state in
-    record {
-      opening = opening;
-      opens = c.opening_text.ensures;
-      lawful = lawful_run c.args.script.now opening (map g.M.Matcher.tells c.args.matchers.items) commands _ _ _ _ _ c.commands_of.ensures c.requires.limits.version
-          (ap (λ (s : State). s.count) reached)
-          (c.in_ok-to_text.ensures ∙ ap (λ (s : State). text_of s.text) reached)
-          (subst (λ (s : State). AreReplies s (map g.M.Matcher.tells c.args.matchers.items) commands c.in_ok-replies.replies.items) c.in_ok-open.ensures.state c.in_ok-replies.ensures.replies)
-          (rw (c.new-3.ensures, c.in_ok-push.ensures.items, c.new-sessions.ensures.items, c.new-2.ensures) refl)
-          refl;
-    }
+    lawful_run c.args.script.now opening (map g.M.Matcher.tells c.args.matchers.items) commands _ _ _ _ _ c.commands_of.ensures c.requires.limits.version
+    (ap (λ (s : State). s.count) reached)
+    (c.in_ok-to_text.ensures ∙ ap (λ (s : State). text_of s.text) reached)
+    (subst (λ (s : State). AreReplies s (map g.M.Matcher.tells c.args.matchers.items) commands c.in_ok-replies.replies.items) c.in_ok-open.ensures.state c.in_ok-replies.ensures.replies)
+    (rw (c.new-3.ensures, c.in_ok-push.ensures.items, c.new-sessions.ensures.items, c.new-2.ensures) refl)
+    refl
