@@ -91,6 +91,10 @@ module _ (read_rose write_rose load_rose pattern_rose : Type 0) where
   by_asked s None h = tt
   by_asked s (Some wanted) h = λ read write load pattern. h
 
+  by_write : (s : Status) (asked : Option Status) → write_rose → IsComplete s asked
+  by_write s None rose = tt
+  by_write s (Some wanted) rose = λ read write load pattern. absurd (write rose)
+
   by_load : (s : Status) (asked : Option Status) → load_rose → IsComplete s asked
   by_load s None rose = tt
   by_load s (Some wanted) rose = λ read write load pattern. absurd (load rose)
@@ -98,6 +102,11 @@ module _ (read_rose write_rose load_rose pattern_rose : Type 0) where
   by_pattern : (s : Status) (asked : Option Status) → pattern_rose → IsComplete s asked
   by_pattern s None rose = tt
   by_pattern s (Some wanted) rose = λ read write load pattern. absurd (pattern rose)
+
+  -- the output failed
+  pub complete_unwritten : (s : Status) (told : Option Files) (left : Option (List ℕ)) → write_rose → IfSome left (λ bytes. IsComplete s (expected bytes told))
+  complete_unwritten s told None rose = tt
+  complete_unwritten s told (Some bytes) rose = by_write s (expected bytes told) rose
 
   -- the whole input was read: these bytes
   read_whole : (P : List ℕ → Type 0) (v : Vec ℕ Global) (left after : Option (List ℕ)) → (bytes : List ℕ) × Gives bytes left after × ReadsAs (Ok v) bytes after → P v.items → IfSome left P

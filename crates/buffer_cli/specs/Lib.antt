@@ -8,3 +8,4 @@ pub mod LoadFaults
 pub mod Load
 pub mod Run
 pub mod Exit
+pub mod Words

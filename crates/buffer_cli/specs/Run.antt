@@ -1,7 +1,5 @@
 -- What a run of the program says: each status with its cause.
-use Rattle.std.specs.Prelude.{◌≡◌, ◌⊎◌, ℕ, ◌+◌, ◌≤◌, nat_lt, List, [], ◌∷◌, length, codes, Bool, true, false, if◌then◌else◌, Option, Some, None, String, string_bytes}
-use Rattle.std.specs.declared.alloc.Global.{Global}
-use Rattle.std.specs.Str.{bytes_eq}
+use Rattle.std.specs.Prelude.{◌≡◌, ◌⊎◌, ℕ, ◌+◌, ◌≤◌, nat_lt, List, [], length, Bool, true, false, if◌then◌else◌, Option, Some, None}
 use Rattle.outer.specs.Source.{IsAtEnd}
 use Rattle.outer.specs.Sink.{Appends, AppendsPrefix}
 use Rattle.points.specs.declared.limits.TheConstants.{MAX_UNITS}
@@ -28,12 +26,6 @@ use Rattle.buffer_cli.specs.declared.load.Unloaded.TheVariants as unloaded
 use Rattle.buffer_cli.specs.Input.{max_input}
 use Rattle.buffer_cli.specs.Load.{opened_with, IsFile, IsLongFile, IsLongText, OpensFile}
 use Rattle.buffer_cli.specs.Patterns.{told_hits, IsPatternAt}
-
--- the words are the one word `run`
-abbrev pub is_run_line : List (String Global) → Bool
-is_run_line [] = false
-is_run_line (word ∷ []) = bytes_eq (string_bytes word) (codes "run")
-is_run_line (word ∷ second ∷ rest) = false
 
 -- The text is that of a transcript that is lawful for a script that opens with these units, where these hits are told of its patterns. It
 -- has the transcript's JSON value.

@@ -1,5 +1,7 @@
-//! The program: it runs a script from standard input, over files of the current folder, and writes its transcript to standard output.
+//! The program: it runs a script from standard input, over files of the current folder, and writes its transcript to standard output;
+//! or it writes a made script.
 //!
+//! `words` tells the calls by their words, and `make` is the one that makes scripts.
 //! A run goes through these modules: `input` reads the script's bytes, `answer` turns them into those
 //! of the transcript, `load` reads the file that the script opens, `matchers` makes the matchers of its patterns, `session` answers each command by calls of the buffer,
 //! `reads` answers the reads of a snapshot, and `output` writes the bytes.
@@ -13,6 +15,7 @@ mod file_tests;
 mod folder;
 mod input;
 mod load;
+mod make;
 mod matchers;
 mod output;
 mod reads;
@@ -23,9 +26,11 @@ mod status;
 #[cfg(test)]
 mod tests;
 mod unheard;
+mod words;
 
 use adapters::{Reading, Writing};
 use folder::CurrentFolder;
+pub use make::run_make;
 use points::MAX_WATCHERS;
 use regexes::RegexMaker;
 pub use run::run_script;
@@ -54,6 +59,10 @@ fn run_program(rt: &HostRuntime) -> Status {
     let Ok(words) = args.collect::<Vec<String>>(alloc) else {
         return Status::NoMemory;
     };
+    let mut output = Writing::new(io::writer(rt));
+    if words.first().is_some_and(|word| word.as_str() == "make") {
+        return run_make(alloc, words.as_slice(), &mut output);
+    }
     // Watchers that keep nothing of what they hear.
     let mut watchers: Vec<Box<dyn Watcher>> = Vec::new(alloc);
     for _ in 0..MAX_WATCHERS {
@@ -71,7 +80,6 @@ fn run_program(rt: &HostRuntime) -> Status {
         return Status::NoMemory;
     }
     let mut input = Reading::new(rt.reader());
-    let mut output = Writing::new(io::writer(rt));
     let mut folder = CurrentFolder::new(rt);
     let mut patterns = RegexMaker::new();
     run_script(

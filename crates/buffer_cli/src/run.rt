@@ -1,23 +1,26 @@
 //! The top call: it reads the script and the file that it opens, answers it and writes the transcript. Its contract is what the
 //! program promises.
-ghost use Rattle.std.specs.Prelude.{◌≡◌, ◌⊎◌, ◌↔◌, ℕ, ◌≤◌, List, length, true, false, IfSome};
+ghost use Rattle.std.specs.Prelude.{◌≡◌, ◌⊎◌, ℕ, ◌≤◌, List, length, true, false, IfSome};
 ghost use Rattle.std.specs.List.{AllByRecursion};
 ghost use Rattle.outer.specs.Count.{Rose};
 ghost use Rattle.outer.specs.Source.{Gives};
-ghost use Rattle.buffer_cli.specs.Run.{is_run_line, Explains, expected, of_answer, refuses_pattern};
+ghost use Rattle.buffer_cli.specs.Words.{is_run_line};
+ghost use Rattle.buffer_cli.specs.Run.{Explains, expected, of_answer, refuses_pattern};
 
 use crate::answer::{Unanswered, answer};
 use crate::input::{InputFault, read_to_end};
 use crate::output::write_all;
 use crate::status::Status;
+use crate::words::run_words;
+use command_words::WordsRefusal;
 use outer::{Folder, PatternMaker, Sink, Source};
 use std::alloc::Global;
 use watch::Watcher;
 
 /// Runs the script that the input holds, and writes its transcript to the output.
-/// The words are those behind the program's name. A file that the script opens is fetched from `folder`. `patterns` makes the
-/// matchers of the script's patterns. The k-th `watch` of the script attaches the k-th of the watchers, none of which has heard a
-/// change yet.
+/// The words are those behind the program's name; the workers that they ask for have nothing to do yet. A file that the script
+/// opens is fetched from `folder`. `patterns` makes the matchers of the script's patterns. The k-th `watch` of the script attaches
+/// the k-th of the watchers, none of which has heard a change yet.
 pub fn run_script<I: Source, O: Sink, F: Folder, P: PatternMaker>(
     alloc: Global,
     words: &[String],
@@ -45,7 +48,9 @@ pub fn run_script<I: Source, O: Sink, F: Folder, P: PatternMaker>(
           after = O.taken output.new;
         }) }
 
-    ensures usage { (result ≡ Status.Usage) ↔ (is_run_line words.now ≡ false) }
+    // Usage comes exactly where the words are no command line of `run`, unless memory ran out.
+    ensures usage { result ≡ Status.Usage → is_run_line words.now ≡ false }
+    ensures no_line { is_run_line words.now ≡ false → (result ≡ Status.Usage) ⊎ (result ≡ Status.NoMemory) }
 
     // A fault is one of the outside.
     ensures input_count { I.faults input.old ≤ I.faults input.new }
@@ -67,9 +72,11 @@ pub fn run_script<I: Source, O: Sink, F: Folder, P: PatternMaker>(
         → ¬ Rose (F.loads folder.old) (F.loads folder.new) → ¬ Rose (P.refusals patterns.old) (P.refusals patterns.new)
         → (result ≡ status) ⊎ (result ≡ Status.NoMemory))) }
 {
-    if !is_run_line(words) {
-        return Status::Usage;
-    }
+    let _workers = match run_words(alloc, words) {
+        Ok(workers) => workers,
+        Err(WordsRefusal::Usage) => return Status::Usage,
+        Err(WordsRefusal::NoMemory) => return Status::NoMemory,
+    };
     let bytes = match read_to_end(alloc, input) {
         Ok(bytes) => bytes,
         Err(InputFault::Failed) => return Status::ReadFault,
@@ -106,15 +113,5 @@ fn status_of(why: Unanswered) -> Status
         Unanswered::InputTooLong => Status::InputTooLong,
         Unanswered::TextTooLong => Status::TextTooLong,
         Unanswered::NoMemory => Status::NoMemory,
-    }
-}
-
-// Whether the words are the one word `run`.
-fn is_run_line(words: &[String]) -> bool
-    ensures { result ≡ is_run_line words.now }
-{
-    match words {
-        [word] => word.as_str() == "run",
-        _ => false,
     }
 }

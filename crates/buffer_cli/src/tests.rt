@@ -3,7 +3,7 @@
 use crate::adapters::{Reading, Writing};
 use crate::regexes::RegexMaker;
 use crate::unheard::are_unheard;
-use crate::{Status, run_script};
+use crate::{Status, run_make, run_script};
 use buffer::Buffer;
 use machine::{CallRefusal, Command, Reply, Text};
 use outer::{
@@ -263,6 +263,39 @@ fn answers_usage_to_other_words(rt: HostRuntime) -> Result<(), Fail> {
     assert!(rt; ends(rt.alloc(), &["check"], HI, (0, 0), (Status::Usage, 0))?);
     assert!(rt; ends(rt.alloc(), &["run", "run"], HI, (0, 0), (Status::Usage, 0))?);
     Ok(())
+}
+
+/// The script of `make 1 2 1`, by the worked draws of docs/formats.md.
+const MADE: &str = "{\"open\":{\"text\":\"abc\\ndef\\n\"},\"sessions\":[[\
+    {\"do\":\"edit\",\"range\":[21,1,21,2],\"text\":\"g\"},\
+    {\"do\":\"edit\",\"range\":[51,15,51,16],\"text\":\"ss\"}]],\"version\":1}\n";
+
+// Whether `make` ends so over an output of which this call fails, and writes so much.
+fn makes(alloc: Global, line: &[&str], fails: u64, status: Status, text: &str) -> bool {
+    match made(alloc, line, fails) {
+        Some((ended, output)) => ended == status && output.bytes() == text.as_bytes(),
+        None => false,
+    }
+}
+
+fn made(alloc: Global, line: &[&str], fails: u64) -> Option<(Status, MemSink)> {
+    let words = words(alloc, line).ok()?;
+    let mut put_fails = Vec::new(alloc);
+    put_fails.push(fails).ok()?;
+    let mut output = MemSink::new(alloc, 4096, put_fails).ok()?;
+    let status = run_make(alloc, words.as_slice(), &mut output);
+    Some((status, output))
+}
+
+#[test]
+fn writes_a_made_script(rt: HostRuntime) {
+    let line: [&str; 4] = ["make", "1", "2", "1"];
+    assert!(rt; makes(rt.alloc(), &line, 9, Status::Done, MADE));
+    // the first put fails; the flush fails, and the bytes were taken
+    assert!(rt; makes(rt.alloc(), &line, 1, Status::WriteFault, ""));
+    assert!(rt; makes(rt.alloc(), &line, 2, Status::WriteFault, MADE));
+    assert!(rt; makes(rt.alloc(), &["make", "1", "2", "9"], 9, Status::Usage, ""));
+    assert!(rt; makes(rt.alloc(), &["run"], 9, Status::Usage, ""));
 }
 
 #[test]
