@@ -3,6 +3,8 @@
 #![tactic(auto)]
 
 #[cfg(test)]
+mod generator_tests;
+#[cfg(test)]
 mod machine_tests;
 #[cfg(test)]
 mod plain_replay_tests;

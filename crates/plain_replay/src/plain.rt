@@ -55,7 +55,8 @@ impl Plain {
 
     /// The UTF-16 units of the text, lent.
     pub fn text(&self) -> &[u16]
-        ensures { result.now ≡ self.now.text }
+        ensures value { result.now ≡ self.now.text }
+        ensures short { length self.now.text ≤ MAX_UNITS }
     {
         self.body.text()
     }

@@ -1,5 +1,5 @@
 -- The parts of the check put together.
-use Rattle.std.proofs.Common.{◌≡◌, ℕ, suc, ◌+◌, ◌-◌, ◌<◌, ◌≤◌, ◌^◌, List, [], ◌∷◌, ◌++◌, length, map, Bool, Option, Some, None, refl, sym, ◌∙◌, ap, subst, arith, length-append}
+use Rattle.std.proofs.Common.{◌≡◌, ℕ, suc, ◌+◌, ◌≤◌, List, [], ◌∷◌, length, map, Bool, Option, Some, None, sym, ◌∙◌, ap, subst, arith, length-append}
 use Rattle.std.specs.Prelude.{sum}
 use Rattle.std.specs.Bool.{Decides}
 use Rattle.std.proofs.lemmas.Bool.Decides.{Decides-like}
@@ -9,9 +9,9 @@ use Rattle.machine.specs.declared.command.Command.{Command}
 use Rattle.machine.specs.declared.command.Script.{Script}
 use Rattle.machine.specs.declared.reply.Reply.{Reply}
 use Rattle.machine.specs.declared.reply.Transcript.{Transcript}
-use Rattle.machine.specs.Machine.{State, Call, opened}
+use Rattle.machine.specs.Machine.{Call, opened}
 use Rattle.machine.specs.Answers.{call_of, number_of}
-use Rattle.machine.specs.Lawful.{Entry, with_entry, session_entries, entries, state_after, EndAgrees, HasForm}
+use Rattle.machine.specs.Lawful.{Entry, with_entry, session_entries, entries, state_after, EndAgrees}
 use Rattle.machine.specs.FirstFault.{EndIsLawful}
 
 one_more_at_most : (o : Option Call) (n : Option ℕ) (r : Reply) (es : List Entry) → length (with_entry o n r es) ≤ suc (length es)

@@ -8,7 +8,7 @@ use Rattle.machine.specs.Machine.{Call, undo}
 use Rattle.machine.specs.Answers.{call_of, number_of}
 use Rattle.machine.specs.Lawful.{Entry, with_entry, session_entries, entries}
 use Rattle.std.specs.Prelude.{is_some, unwrap_or, true}
-use Rattle.transcript_check.proofs.Pairs.{dropped}
+use Rattle.snapshot_check.proofs.Dropped.{dropped}
 
 pub entry_in_front : (o : Option Call) (n : Option ℕ) (r : Reply) (es : List Entry) → with_entry o n r es ≡ with_entry o n r [] ++ es
 entry_in_front None n r es = refl

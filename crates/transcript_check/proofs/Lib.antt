@@ -4,3 +4,9 @@ pub mod Slots
 pub mod RisingLemmas
 pub mod ReplayLemmas
 pub mod CheckLemmas
+pub mod VersionLemmas
+pub mod ShownLemmas
+pub mod FoundLemmas
+pub mod ToldLemmas
+pub mod PassLemmas
+pub mod JudgedLemmas

@@ -1,20 +1,14 @@
 -- Tests of two lists pair by pair, as a loop goes on with them.
-use Rattle.std.proofs.Common.{◌≡◌, ℕ, zero, suc, ◌+◌, ◌<◌, ◌≤◌, List, [], ◌∷◌, length, drop, get_or, Bool, true, false, ◌&&◌, refl, sym, ◌∙◌, ap, arith, add-one, drop-cons}
-use Rattle.std.specs.Bool.{Decides}
+use Rattle.std.proofs.Common.{◌≡◌, ℕ, ◌+◌, ◌<◌, ◌≤◌, List, [], ◌∷◌, length, drop, get_or, Bool, true, false, ◌&&◌, refl, sym, ◌∙◌, ap}
 use Rattle.std.specs.Cmp.Lexicographic.{pointwise, as_long}
 use Rattle.std.proofs.lemmas.Bool.{false_from_ne_true}
 use Rattle.std.proofs.lemmas.List.{drop_all}
+use Rattle.snapshot_check.proofs.Dropped.{dropped}
 use Rattle.machine.specs.declared.command.Command.{Command}
 use Rattle.machine.specs.declared.reads.Read.{Read}
 use Rattle.machine.specs.declared.reads.ReadAnswer.{ReadAnswer}
 use Rattle.machine.specs.declared.reply.Reply.{Reply}
 use Rattle.machine.specs.Lawful.{answer_has_form, answers_have_forms, has_form, have_forms, sessions_have_forms}
-
--- what is left of a list begins with the element that is read there
-pub dropped : {X : Type 0} (xs : List X) (i : ℕ) (x : X) → i < length xs → x ≡ get_or xs i x → drop i xs ≡ x ∷ drop (i + 1) xs
-dropped xs i x within is =
-    let cut : drop i xs ≡ get_or xs i x ∷ drop (suc i) xs = drop-cons xs i x within in
-    cut ∙ ap (λ y. y ∷ drop (suc i) xs) (sym is) ∙ ap (λ n. x ∷ drop n xs) (sym (add-one i))
 
 module _ {A B : Type 0} (E : A → B → Bool) (F : List A → List B → Bool) (same : (xs : List A) (ys : List B) → F xs ys ≡ pointwise E xs ys) where
   pub pairs_long : (xs : List A) (ys : List B) → F xs ys ≡ true → length xs ≡ length ys
@@ -57,17 +51,3 @@ sessions_pairs version [] [] = refl
 sessions_pairs version [] (r ∷ rs) = refl
 sessions_pairs version (c ∷ cs) [] = refl
 sessions_pairs version (c ∷ cs) (r ∷ rs) = ap (λ b. have_forms version c r && b) (sessions_pairs version cs rs)
-
--- two lists that are the same as far as a loop has come
-pub same_more : {X : Type 0} (xs ys : List X) (i : ℕ) (x y : X) → i < length xs → i < length ys → x ≡ get_or xs i x → y ≡ get_or ys i y → x ≡ y
-    → (drop i xs ≡ drop i ys → xs ≡ ys) → drop (i + 1) xs ≡ drop (i + 1) ys → xs ≡ ys
-same_more xs ys i x y a b left right is so_far rest =
-    so_far (dropped xs i x a left ∙ ap (λ z. z ∷ drop (i + 1) xs) is ∙ ap (λ l. y ∷ l) rest ∙ sym (dropped ys i y b right))
-
-pub same_end : {X : Type 0} (xs ys : List X) (i : ℕ) → length xs ≤ i → length ys ≤ i → (drop i xs ≡ drop i ys → xs ≡ ys) → xs ≡ ys
-same_end xs ys i a b so_far = so_far (drop_all i xs a ∙ sym (drop_all i ys b))
-
-pub other_at : {X : Type 0} (xs ys : List X) (i : ℕ) (x y : X) → i < length xs → x ≡ get_or xs i x → y ≡ get_or ys i y → i < length ys → (x ≡ y → ⊥) → xs ≡ ys → ⊥
-other_at xs ys i x y a left right b apart same =
-    let cut : x ∷ drop (i + 1) xs ≡ y ∷ drop (i + 1) ys = sym (dropped xs i x a left) ∙ ap (drop i) same ∙ dropped ys i y b right in
-    let head : x ≡ y = cc in apart head

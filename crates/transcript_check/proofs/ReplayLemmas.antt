@@ -1,14 +1,12 @@
 -- The calls of a transcript, made again one after the other.
-use Rattle.std.proofs.Common.{◌≡◌, ℕ, zero, suc, ◌+◌, ◌<◌, ◌≤◌, List, [], ◌∷◌, length, map, get_or, Bool, true, false, Option, Some, None, refl, sym, ◌∙◌, ap, subst, arith, inl, inr, add-one, below_more}
+use Rattle.std.proofs.Common.{◌≡◌, ℕ, suc, ◌+◌, ◌<◌, List, [], ◌∷◌, length, get_or, Option, Some, refl, sym, ◌∙◌, ap, subst, arith}
 use Rattle.std.proofs.lemmas.Option.{slice_get-get_or}
 use Rattle.std.specs.Prelude.{slice_get}
-use Rattle.std.specs.Bool.{Decides}
 use Rattle.machine.specs.declared.reply.Reply.{Reply}
-use Rattle.machine.specs.declared.reply.Reply.TheVariants as reply
-use Rattle.machine.specs.Machine.{State, Call, Part, Answer, Edited, Batched, Shown, Done, Ranged, Found, Compared, Heard, Refused, step}
+use Rattle.machine.specs.Machine.{State, Call, Answer, Edited, Batched, Shown, Done, Ranged, Found, Compared, Heard, Refused, step}
 use Rattle.machine.specs.Answers.{reply_of}
-use Rattle.machine.specs.Lawful.{Entry, numbered, state_after, after_entry, IsReplyAt, CallsAgree}
-use Rattle.machine.specs.FirstFault.{AgreesAt, IsFirstCall}
+use Rattle.machine.specs.Lawful.{Entry, numbered, state_after, after_entry, IsReplyAt}
+use Rattle.machine.specs.FirstFault.{AgreesAt}
 use Rattle.plain_replay.specs.Replayed.{replied}
 use Rattle.transcript_check.specs.Order.{IsOrder}
 use Rattle.transcript_check.specs.Versions.{in_version}

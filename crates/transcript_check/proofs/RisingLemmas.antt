@@ -1,5 +1,5 @@
 -- Numbers that rise, tested one after the other.
-use Rattle.std.proofs.Common.{◌≡◌, ℕ, zero, suc, ◌+◌, ◌<◌, ◌≤◌, List, [], ◌∷◌, length, drop, get_or, Bool, true, false, ◌&&◌, Option, Some, None, refl, sym, ◌∙◌, ap, subst, arith, inl, inr}
+use Rattle.std.proofs.Common.{◌≡◌, ℕ, zero, suc, ◌+◌, ◌<◌, ◌≤◌, List, [], ◌∷◌, length, drop, get_or, true, false, ◌&&◌, Option, Some, None, refl, sym, ◌∙◌, ap, subst, arith}
 use Rattle.std.specs.Prelude.{nat_lt}
 use Rattle.std.specs.Bool.{Decides}
 use Rattle.std.specs.List.{AllByRecursion}
@@ -11,7 +11,7 @@ use Rattle.machine.specs.declared.reply.Reply.{Reply}
 use Rattle.machine.specs.Answers.{number_of}
 use Rattle.machine.specs.Lawful.{with_number, numbers}
 use Rattle.transcript_check.specs.Order.{is_above, rises}
-use Rattle.transcript_check.proofs.Pairs.{dropped}
+use Rattle.snapshot_check.proofs.Dropped.{dropped}
 
 rises_all : (m : ℕ) (ns : List ℕ) → rises (Some m) ns ≡ true → IsStrictlyIncreasing (m ∷ ns)
 rises_all m [] is k h = absurd (omega (arith, h))
@@ -21,7 +21,7 @@ rises_all m (n ∷ ns) is (suc k) h =
     let same : suc (k + 1) ≡ suc k + 1 = omega arith in
     subst (λ j. get_or (n ∷ ns) k 0 < get_or (m ∷ n ∷ ns) j 0) same later
 
-tail_rises : (m : ℕ) (ns : List ℕ) → IsStrictlyIncreasing (m ∷ ns) → IsStrictlyIncreasing ns
+pub tail_rises : (m : ℕ) (ns : List ℕ) → IsStrictlyIncreasing (m ∷ ns) → IsStrictlyIncreasing ns
 tail_rises m ns all k h =
     let same : suc k + 1 ≡ suc (k + 1) = omega arith in
     subst (λ j. get_or ns k 0 < get_or (m ∷ ns) j 0) same (all (suc k) (omega (arith, h)))

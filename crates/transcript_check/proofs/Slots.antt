@@ -1,12 +1,12 @@
 -- The slots of the numbers 1 to N, as a loop fills them.
-use Rattle.std.proofs.Common.{◌≡◌, ℕ, zero, suc, ◌+◌, ◌<◌, ◌≤◌, List, [], ◌∷◌, ◌++◌, length, take, drop, get_or, map, replicate, Bool, true, false, cond, eqb, Option, Some, None, refl, sym, ◌∙◌, ap, subst, arith, inl, inr, eq-eqb}
+use Rattle.std.proofs.Common.{◌≡◌, ℕ, zero, suc, ◌+◌, ◌<◌, List, [], ◌∷◌, length, take, drop, get_or, map, replicate, Bool, true, false, cond, Option, Some, None, refl, sym, ◌∙◌, ap, subst, arith, inl, inr, eq-eqb}
 use Rattle.std.specs.Prelude.{count_by, find, is_some, slice_get}
-use Rattle.std.proofs.lemmas.Bool.{cases_eq, ne_eqb, false≢true, eqb-true}
+use Rattle.std.proofs.lemmas.Bool.{cases_eq, ne_eqb, false≢true}
 use Rattle.std.proofs.lemmas.List.{take_all, get_or-replicate, length-replicate, get_or-map}
-use Rattle.std.proofs.lemmas.List.Sums.{count_by_more_yes, count_by_more_no, sum_by-append, sum_by-cons}
+use Rattle.std.proofs.lemmas.List.Sums.{count_by_more_yes, count_by_more_no, sum_by-cons}
 use Rattle.std.proofs.lemmas.Option.{slice_get-get_or}
-use Rattle.machine.specs.Lawful.{Entry, has_number, numbered}
-use Rattle.transcript_check.specs.Order.{IsOnce, IsAt, IsSlot, AreSlots, IsTaken, IsFilled, HasGap, IsOrder}
+use Rattle.machine.specs.Lawful.{Entry, has_number}
+use Rattle.transcript_check.specs.Order.{IsOnce, IsSlot, AreSlots, IsTaken, IsFilled, HasGap, IsOrder}
 
 none_of : (n : ℕ) (slots : List (Option ℕ)) → get_or slots n None ≡ None → is_some (get_or slots n None) ≡ true → ⊥
 none_of n slots none some = false≢true (ap is_some (sym none) ∙ some)

@@ -1,3 +1,3 @@
 pub mod Order
 pub mod Versions
-pub mod Replayed
+pub mod Found

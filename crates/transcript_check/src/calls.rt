@@ -1,11 +1,12 @@
 //! The numbered calls of a transcript with their numbers and replies, session after session.
-ghost use Rattle.std.specs.Prelude.{◌≡◌, ◌++◌, [], min, is_some, IfOk, OnOk};
+ghost use Rattle.std.specs.Prelude.{◌≡◌, ◌++◌, [], is_some, IfOk, OnOk};
 ghost use Rattle.machine.specs.Answers as answers;
 ghost use Rattle.machine.specs.Lawful as lawful;
 ghost use Rattle.machine.specs.Lawful.{with_entry, session_entries};
 
 use machine::{Command, Reply, Sequence};
 use points::NoMemory;
+use snapshot_check::{lesser, number_of};
 use std::alloc::Global;
 use std::marker::Model;
 
@@ -104,12 +105,6 @@ fn add<'a>(
     }
 }
 
-fn lesser(a: usize, b: usize) -> usize
-    ensures { result ≡ min a b }
-{
-    if a < b { a } else { b }
-}
-
 // The command is a numbered call.
 fn is_call(command: &Command) -> bool
     ensures { result ≡ is_some (answers.call_of command.now) }
@@ -121,23 +116,5 @@ fn is_call(command: &Command) -> bool
         | Command::Release { .. }
         | Command::Squash => false,
         _ => true,
-    }
-}
-
-/// The number of a reply, where it has one.
-pub(crate) fn number_of(reply: &Reply) -> Option<u64>
-    ensures { result ≡ answers.number_of reply.now }
-{
-    match reply {
-        Reply::Edited { at, .. } => Some(*at),
-        Reply::Batched { at, .. } => Some(*at),
-        Reply::Text { at, .. } => Some(*at),
-        Reply::Numbered { at } => Some(*at),
-        Reply::Range { at, .. } => Some(*at),
-        Reply::Marks { at, .. } => Some(*at),
-        Reply::Order { at, .. } => Some(*at),
-        Reply::Heard { at, .. } => Some(*at),
-        Reply::Refused { at, .. } => Some(*at),
-        Reply::Taken { .. } | Reply::Answered { .. } | Reply::Nothing => None,
     }
 }

@@ -4,42 +4,17 @@ ghost use Rattle.std.specs.Bool.{Decides};
 ghost use Rattle.points.specs.Text.{text_of};
 ghost use Rattle.machine.specs.Machine.{step};
 ghost use Rattle.machine.specs.Answers.{reply_of};
-ghost use Rattle.machine.specs.Lawful.{CallsAgree, state_after};
-ghost use Rattle.machine.specs.FirstFault.{IsFirstCall};
-ghost use Rattle.transcript_check.specs.Order.{IsOrder};
 ghost use Rattle.transcript_check.specs.Versions as versions;
 
 use crate::calls::Called;
-use crate::same::{same_reply, same_text};
 use machine::{HitNumbers, Reply, ReplyPart, TranscriptEnd};
 use plain_replay::Plain;
 use points::{NoMemory, Point};
+use snapshot_check::{same_reply, same_text};
 use std::alloc::Global;
 
-/// The first call whose reply isn't that of the machine; none where all agree, and the machine then stands behind
-/// them.
-pub(crate) fn first_call(
-    version: u32,
-    plain: &mut Plain,
-    calls: &[Called<'_>],
-    order: &[usize],
-) -> Result<Option<u64>, NoMemory>
-    requires order { IsOrder calls.now order.now }
-    requires few { length calls.now < 2 ^ 57 - 1 }
-    requires fresh { plain.old.count ≡ 0 }
-    ensures calls { IfOk result (λ o. MatchOption o (CallsAgree version plain.old calls.now) (λ n. IsFirstCall version plain.old calls.now n)) }
-    ensures state { IfOk result (λ o. MatchOption o (plain.new ≡ state_after plain.old calls.now (length calls.now)) (λ n. Unit {0})) }
-{
-    for i in 0..order.len() {
-        if !agrees(version, plain, &calls[order[i]])? {
-            return Ok(Some(i as u64 + 1));
-        }
-    }
-    Ok(None)
-}
-
-// Makes a call. It answers whether the machine's reply is the transcript's.
-fn agrees(version: u32, plain: &mut Plain, call: &Called<'_>) -> Result<bool, NoMemory>
+/// Makes a call. It answers whether the machine's reply is the transcript's.
+pub(crate) fn agrees(version: u32, plain: &mut Plain, call: &Called<'_>) -> Result<bool, NoMemory>
     requires { plain.old.count < 2 ^ 57 - 1 }
     ensures state { OnOk result (plain.new ≡ (step plain.old call.now.call).0) }
     ensures agrees { IfOk result (λ b. Decides b (call.now.reply ≡ reply_of version (plain.old.count + 1) (step plain.old call.now.call).1)) }

@@ -6,8 +6,8 @@ ghost use Rattle.std.specs.List.Sorted.{IsStrictlyIncreasing};
 ghost use Rattle.machine.specs.Lawful.{numbers};
 ghost use Rattle.transcript_check.specs.Order.{is_above};
 
-use crate::calls::number_of;
 use machine::{Reply, Sequence};
+use snapshot_check::number_of;
 
 /// The numbers of each session rise.
 pub(crate) fn all_rise(sessions: &[Sequence<Reply>]) -> bool

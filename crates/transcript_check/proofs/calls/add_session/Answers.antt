@@ -1,4 +1,4 @@
-use Rattle.std.proofs.Common.{◌≡◌, ◌++◌, ◌≤◌, drop, length, min, arith}
+use Rattle.std.proofs.Common.{◌≤◌, drop, length, min, arith}
 use Rattle.machine.specs.Lawful.{session_entries}
 use Rattle.transcript_check.proofs.Gather.{gathered_all, session_end}
 use Rattle.transcript_check.proofs.calls.add_session.Goals as goal

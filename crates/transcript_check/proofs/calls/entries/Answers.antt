@@ -1,4 +1,4 @@
-use Rattle.std.proofs.Common.{◌≡◌, ◌++◌, ◌≤◌, drop, length, min, arith}
+use Rattle.std.proofs.Common.{◌≤◌, drop, length, min, arith}
 use Rattle.machine.specs.Lawful.{entries}
 use Rattle.transcript_check.proofs.Gather.{gathered_all, entries_end}
 use Rattle.transcript_check.proofs.calls.entries.Goals as goal

@@ -1,5 +1,5 @@
-use Rattle.std.proofs.Common.{◌≡◌, ◌-◌, ◌<◌, get_or, length, ◌∙◌, sym, ap, arith}
-use Rattle.std.specs.Prelude.{Option, None, is_some, ℕ}
+use Rattle.std.proofs.Common.{◌-◌, ◌<◌, length, ◌∙◌, sym, ap, arith}
+use Rattle.std.specs.Prelude.{None, is_some}
 use Rattle.std.proofs.lemmas.List.{get_or_default}
 use Rattle.transcript_check.proofs.order.fill.Goals as goal
 

@@ -1,4 +1,4 @@
-use Rattle.std.proofs.Common.{◌≡◌, ◌∙◌, List, map, length, Some, Option, ℕ, sym, subst}
+use Rattle.std.proofs.Common.{◌≡◌, ◌∙◌, map, length, Some, sym, subst}
 use Rattle.std.proofs.lemmas.Option.{MatchOption-at_some, MatchOption-at_none}
 use Rattle.transcript_check.specs.Order.{AreSlots, HasGap}
 use Rattle.transcript_check.proofs.Slots.{gap_of, order_once, order_is}

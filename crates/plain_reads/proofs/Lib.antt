@@ -1,0 +1,5 @@
+pub mod MendLemmas
+pub mod PlaceLemmas
+pub mod FindLemmas
+pub mod SearchLemmas
+pub mod LengthLemmas

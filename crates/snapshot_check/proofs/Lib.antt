@@ -1,0 +1,4 @@
+pub mod Dropped
+pub mod JudgedLemmas
+pub mod GatherLemmas
+pub mod LinkLemmas

@@ -1,0 +1,4 @@
+pub mod Takes
+pub mod Gathered
+pub mod Showing
+pub mod Judged

@@ -1,5 +1,0 @@
-use Rattle.std.proofs.Common.{◌≡◌, length, drop}
-use Rattle.transcript_check.proofs.same.same_answers.Given as goal
-
-abbrev pub invariant-loop-i : goal.invariant-loop-i
-invariant-loop-i l = record { long : length l.a ≡ length l.b; so_far : drop l.i l.a ≡ drop l.i l.b → l.a ≡ l.b }
