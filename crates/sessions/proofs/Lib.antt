@@ -1,0 +1,7 @@
+mod Events
+mod Gathering
+mod Playing
+mod Ending
+mod ReadLemmas
+mod HoldingLemmas
+mod SessionLemmas

@@ -1,0 +1,89 @@
+-- What one session does from its desk, command by command.
+use Rattle.std.specs.Prelude.{◌≡◌, ℕ, ◌==◌, List, [], ◌∷◌, drop, true, if◌then◌else◌, Option}
+use Rattle.std.specs.List.{AllByRecursion}
+use Rattle.machine.specs.declared.command.Command.{Command}
+use Rattle.machine.specs.declared.command.Command.TheVariants as command
+use Rattle.machine.specs.declared.reads.Read.{Read}
+use Rattle.machine.specs.declared.reads.ReadAnswer.{ReadAnswer}
+use Rattle.machine.specs.declared.reply.Reply.{Reply}
+use Rattle.machine.specs.declared.reply.Reply.TheVariants as reply
+use Rattle.machine.specs.Answers.{Matches}
+use Rattle.machine.specs.Lawful.{answers_have_forms, asked_in, IsAsked, patterns_in}
+use Rattle.machine.specs.Plain.{Kept, kept_text}
+use Rattle.shared_buffer.specs.Entries.{is_plain}
+use Rattle.shared_buffer.specs.Tokens.{Known, Opening, Called, Stays, IsTaken}
+
+-- what a session knows from its desk, and the snapshots that it has, the last taken first
+pub record Doing : Type 0 where
+  pub knows : Known
+  pub kept : List Kept
+
+-- the snapshots without the first that has this number
+abbrev pub without_first : ℕ → List Kept → List Kept
+without_first k [] = []
+without_first k (s ∷ ss) = if s.number == k then ss else s ∷ without_first k ss
+
+module _ (o : Opening) where
+  -- a numbered call was played
+  pub record IsPlay (c : Command) (r : Reply) (v w : Doing) : Type 0 where
+    pub plain : is_plain c ≡ true
+    pub called : Called o c r v.knows w.knows
+    pub kept : w.kept ≡ v.kept
+
+  -- a snapshot was taken under the number k
+  pub record IsTake (k : ℕ) (r : Reply) (v w : Doing) : Type 0 where
+    pub text : List ℕ
+    pub version : ℕ
+    pub tells : r ≡ reply.Taken version
+    pub took : IsTaken o text version v.knows w.knows
+    pub kept : w.kept ≡ record { number = k; text = text } ∷ v.kept
+
+  -- So, and these are the snapshots before and after the take, by what the desk knows
+  pub record IsTakenAs (version k : ℕ) (before after : List Kept) (v w : Known) : Type 0 where
+    pub text : List ℕ
+    pub took : IsTaken o text version v w
+    pub kept : after ≡ record { number = k; text = text } ∷ before
+
+  -- the snapshot with the number k was read
+  pub record IsRead (told : List (Option Matches)) (k : ℕ) (reads : List Read) (r : Reply) (v w : Doing) : Type 0 where
+    pub answers : List ReadAnswer
+    pub tells : r ≡ reply.Answered answers
+    pub forms : answers_have_forms reads answers ≡ true
+    pub right : AllByRecursion (IsAsked (kept_text k v.kept)) (asked_in told reads answers)
+    pub same : w ≡ v
+
+  -- the snapshot with the number k was given up
+  pub record IsRelease (k : ℕ) (r : Reply) (v w : Doing) : Type 0 where
+    pub tells : r ≡ reply.Nothing
+    pub knows : w.knows ≡ v.knows
+    pub kept : w.kept ≡ without_first k v.kept
+
+  -- the layers were put together
+  pub record IsSquash (r : Reply) (v w : Doing) : Type 0 where
+    pub tells : r ≡ reply.Nothing
+    pub stays : Stays o v.knows w.knows
+    pub kept : w.kept ≡ v.kept
+
+  -- the command was answered by this reply, where these hits are told of the patterns from it on
+  abbrev pub IsDone : List (Option Matches) → Command → Reply → Doing → Doing → Type 0
+  IsDone told (command.Take k) r v w = IsTake k r v w
+  IsDone told (command.Read k reads) r v w = IsRead told k reads r v w
+  IsDone told (command.Release k) r v w = IsRelease k r v w
+  IsDone told command.Squash r v w = IsSquash r v w
+  IsDone told (command.Send k reads) r v w = ⊥
+  IsDone told c r v w = IsPlay c r v w
+
+  -- so, whatever hits are told, while the snapshots went from these to those and what the desk knows from v to w
+  abbrev pub IsAnswered : Command → Reply → List Kept → List Kept → Known → Known → Type 0
+  IsAnswered c r before after v w = (told : List (Option Matches)) → IsDone told c r (record { knows = v; kept = before }) (record { knows = w; kept = after })
+
+  -- so of these commands in turn
+  abbrev pub AreDone : List (Option Matches) → List Command → List Reply → Doing → Doing → Type 0
+  AreDone told [] [] v w = w ≡ v
+  AreDone told [] (r ∷ rs) v w = ⊥
+  AreDone told (c ∷ cs) [] v w = ⊥
+  AreDone told (c ∷ cs) (r ∷ rs) v w = (u : Doing) × IsDone told c r v u × AreDone (drop (patterns_in c) told) cs rs u w
+
+  -- The commands of a session were answered by these replies, whatever hits are told of patterns, while what the desk knows went from v to w
+  abbrev pub IsRun : List Command → List Reply → Known → Known → Type 0
+  IsRun cs rs v w = (told : List (Option Matches)) → (kept : List Kept) × AreDone told cs rs (record { knows = v; kept = [] }) (record { knows = w; kept = kept })
