@@ -96,50 +96,67 @@ fn is_appended(
     Ok(into.as_slice() == expected)
 }
 
+fn clips_first_row(chain: &Chain) -> bool {
+    clips_to(
+        chain,
+        &[
+            (at(0, 1), at(0, 1)),
+            (at(0, 2), at(0, 2)),
+            (at(0, 3), at(0, 2)),
+            (at(0, 9), at(0, 2)),
+        ],
+    )
+}
+
+fn clips_last_row(chain: &Chain) -> bool {
+    clips_to(
+        chain,
+        &[
+            (at(1, 1), at(1, 1)),
+            (at(1, 2), at(1, 1)),
+            (at(1, 3), at(1, 3)),
+            (at(1, 9), at(1, 4)),
+        ],
+    )
+}
+
+fn clips_behind(chain: &Chain) -> bool {
+    clips_to(chain, &[(at(2, 0), at(1, 4)), (at(9, 9), at(1, 4))])
+}
+
+fn is_cut_apart(chain: &Chain) -> bool {
+    chain.depth() == 4 && chain.extent() == at(1, 4)
+}
+
 #[test]
 fn clips_where_layers_cut_endings_and_pairs(rt: HostRuntime) -> Result<(), Fail> {
     let chain = cut_apart(rt.alloc())?;
-    assert!(rt; chain.depth() == 4 && chain.extent() == at(1, 4));
-    assert!(rt;
-        clips_to(
-            &chain,
-            &[
-                (at(0, 1), at(0, 1)),
-                (at(0, 2), at(0, 2)),
-                (at(0, 3), at(0, 2)),
-                (at(0, 9), at(0, 2))
-            ]
-        )
-    );
-    assert!(rt;
-        clips_to(
-            &chain,
-            &[
-                (at(1, 1), at(1, 1)),
-                (at(1, 2), at(1, 1)),
-                (at(1, 3), at(1, 3)),
-                (at(1, 9), at(1, 4))
-            ]
-        )
-    );
-    assert!(rt; clips_to(&chain, &[(at(2, 0), at(1, 4)), (at(9, 9), at(1, 4))]));
+    assert!(rt; is_cut_apart(&chain) && clips_first_row(&chain));
+    assert!(rt; clips_last_row(&chain) && clips_behind(&chain));
     Ok(())
+}
+
+fn has_two_lines(chain: &Chain) -> bool {
+    is_line(chain, 0, 2) && is_line(chain, 1, 4) && chain.line_range(2).is_none()
+}
+
+fn has_empty_lines(endings: &Chain) -> bool {
+    is_line(endings, 0, 0)
+        && is_line(endings, 1, 1)
+        && endings.clip(at(0, 1)) == at(0, 0)
+        && endings.clip(at(1, 1)) == at(1, 1)
 }
 
 #[test]
 fn reads_rows_that_layers_cut_apart(rt: HostRuntime) -> Result<(), Fail> {
     let chain = cut_apart(rt.alloc())?;
-    assert!(rt; is_line(&chain, 0, 2) && is_line(&chain, 1, 4));
-    assert!(rt; chain.line_range(2).is_none());
+    assert!(rt; has_two_lines(&chain));
     let endings = only_endings(rt.alloc())?;
-    assert!(rt; is_line(&endings, 0, 0) && is_line(&endings, 1, 1));
-    assert!(rt; endings.clip(at(0, 1)) == at(0, 0) && endings.clip(at(1, 1)) == at(1, 1));
+    assert!(rt; has_empty_lines(&endings));
     Ok(())
 }
 
-#[test]
-fn lends_what_stands_between_clipped_points(rt: HostRuntime) -> Result<(), Fail> {
-    let chain = cut_apart(rt.alloc())?;
+fn has_spans(chain: &Chain) -> bool {
     let from = Spot {
         offset: 2,
         point: at(0, 2),
@@ -148,26 +165,25 @@ fn lends_what_stands_between_clipped_points(rt: HostRuntime) -> Result<(), Fail>
         offset: 5,
         point: at(1, 1),
     };
-    assert!(rt; has_span(&chain, at(0, 3), at(1, 2), from, to));
-    assert!(rt; has_span(&chain, at(1, 1), at(1, 2), to, to));
-    assert!(rt; is_lent(&chain, at(0, 3), at(1, 2), &[&[13], &[10, 99]]));
-    assert!(rt;
-        is_lent(
-            &chain,
+    has_span(chain, at(0, 3), at(1, 2), from, to) && has_span(chain, at(1, 1), at(1, 2), to, to)
+}
+
+fn lends_pieces(chain: &Chain) -> bool {
+    is_lent(chain, at(0, 3), at(1, 2), &[&[13], &[10, 99]])
+        && is_lent(
+            chain,
             at(0, 0),
             at(9, 9),
-            &[&[97, 98], &[13], &[10, 99], &[0xd83d], &[0xde00], &[100]]
+            &[&[97, 98], &[13], &[10, 99], &[0xd83d], &[0xde00], &[100]],
         )
-    );
-    assert!(rt; is_lent(&chain, at(1, 1), at(1, 2), &[]));
-    assert!(rt;
-        is_appended(
-            rt.alloc(),
-            &chain,
-            at(1, 2),
-            at(1, 3),
-            &[120, 0xd83d, 0xde00]
-        )?
-    );
+        && is_lent(chain, at(1, 1), at(1, 2), &[])
+}
+
+#[test]
+fn lends_what_stands_between_clipped_points(rt: HostRuntime) -> Result<(), Fail> {
+    let chain = cut_apart(rt.alloc())?;
+    let pair = [120, 0xd83d, 0xde00];
+    assert!(rt; has_spans(&chain) && lends_pieces(&chain));
+    assert!(rt; is_appended(rt.alloc(), &chain, at(1, 2), at(1, 3), &pair)?);
     Ok(())
 }

@@ -78,26 +78,36 @@ fn has_text(alloc: Global, chain: &Chain, expected: &str) -> Result<bool, NoMemo
     Ok(text.as_str() == expected)
 }
 
+fn lends_its_units(chain: &Chain) -> bool {
+    is_whole(chain)
+        && is_one_piece(chain, 0, 8, &UNITS)
+        && is_one_piece(chain, 3, 6, &[10, 99, 0xd83d])
+        && is_no_piece(chain, 8)
+}
+
 #[test]
 fn reads_a_text_without_layers(rt: HostRuntime) -> Result<(), Fail> {
     let chain = chain_of_text(rt.alloc())?.ok_or("too long")?;
-    assert!(rt; is_whole(&chain));
-    assert!(rt; is_one_piece(&chain, 0, 8, &UNITS));
-    assert!(rt; is_one_piece(&chain, 3, 6, &[10, 99, 0xd83d]));
-    assert!(rt; is_no_piece(&chain, 8));
+    assert!(rt; lends_its_units(&chain));
     assert!(rt; has_text(rt.alloc(), &chain, TEXT)?);
     assert!(rt; is_appended(rt.alloc(), &chain, 2, &[120, 97, 98])?);
     Ok(())
 }
 
+fn has_points(chain: &Chain) -> bool {
+    is_point(chain, 0, at(0, 0))
+        && is_point(chain, 3, at(0, 3))
+        && is_point(chain, 4, at(1, 0))
+        && is_point(chain, 8, at(1, 4))
+        && is_found(chain, 0)
+        && is_found(chain, 4)
+        && is_found(chain, 8)
+}
+
 #[test]
 fn names_the_points_of_offsets(rt: HostRuntime) -> Result<(), Fail> {
     let chain = chain_of_text(rt.alloc())?.ok_or("too long")?;
-    assert!(rt; is_point(&chain, 0, at(0, 0)));
-    assert!(rt; is_point(&chain, 3, at(0, 3)));
-    assert!(rt; is_point(&chain, 4, at(1, 0)));
-    assert!(rt; is_point(&chain, 8, at(1, 4)));
-    assert!(rt; is_found(&chain, 0) && is_found(&chain, 4) && is_found(&chain, 8));
+    assert!(rt; has_points(&chain));
     Ok(())
 }
 

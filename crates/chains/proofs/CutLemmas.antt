@@ -16,10 +16,10 @@ four a b c x = append_assoc (a ++ b) c x ∙ append_assoc a b (c ++ x)
 five : (a b c n k : List ℕ) → a ++ b ++ c ++ (n ++ k) ≡ a ++ ((b ++ (c ++ n)) ++ k)
 five a b c n k = four a b c (n ++ k) ∙ ap (λ (xs : List ℕ). a ++ xs) (sym (append_assoc b (c ++ n) k ∙ ap (λ (xs : List ℕ). b ++ xs) (append_assoc c n k)))
 
-same_cut : (c d : Cut) → Some c ≡ Some d → d ≡ c
+pub same_cut : (c d : Cut) → Some c ≡ Some d → d ≡ c
 same_cut c d e = sym (ap (λ (o : Option Cut). unwrap_or o c) e)
 
-no_cut : (c : Cut) → None ≡ Some c → ⊥
+pub no_cut : (c : Cut) → None ≡ Some c → ⊥
 no_cut c e = cc
 
 -- the cut at place j of those of pieces: where it ends

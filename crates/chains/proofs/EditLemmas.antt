@@ -22,13 +22,13 @@ use Rattle.chains.proofs.LaidLemmas.{tags_of_laid, text_of_laid, slice_is}
 use Rattle.chains.proofs.WeaverLemmas.{ahead_is, IsRoom}
 
 -- stretches of lists that are joined
-drop_both : {X : Type 0} (a : ℕ) (x y : List X) → drop a (x ++ y) ≡ drop a x ++ drop (a - length x) y
+pub drop_both : {X : Type 0} (a : ℕ) (x y : List X) → drop a (x ++ y) ≡ drop a x ++ drop (a - length x) y
 drop_both zero [] y = refl
 drop_both {X} (suc a) [] y = ap (λ (n : ℕ). drop n y) (let e : suc a ≡ suc a - 0 = omega arith in e)
 drop_both {X} zero (u ∷ x) y = ap (λ (n : ℕ). u ∷ x ++ drop n y) (let e : 0 ≡ 0 - suc (length x) = omega arith in e)
 drop_both {X} (suc a) (u ∷ x) y = drop_both a x y ∙ ap (λ (n : ℕ). drop a x ++ drop n y) (let e : a - length x ≡ suc a - suc (length x) = omega arith in e)
 
-take_both : {X : Type 0} (a : ℕ) (x y : List X) → take a (x ++ y) ≡ take a x ++ take (a - length x) y
+pub take_both : {X : Type 0} (a : ℕ) (x y : List X) → take a (x ++ y) ≡ take a x ++ take (a - length x) y
 take_both zero [] y = refl
 take_both {X} (suc a) [] y = ap (λ (n : ℕ). take n y) (let e : suc a ≡ suc a - 0 = omega arith in e)
 take_both {X} zero (u ∷ x) y = ap (λ (n : ℕ). take n y) (let e : 0 ≡ 0 - suc (length x) = omega arith in e)
@@ -72,7 +72,7 @@ module _ (t n k : List ℕ) (start end : Spot) (lies : Lies t n k start end) whe
   end_at : end.offset ≡ length n + length k
   end_at = ap (λ (x : Spot). x.offset) lies.end_is ∙ length-append n k
 
-  spot_within : (x : Spot) → IsIn t x → length n ≤ x.offset → x.offset ≤ length n + length k → x ≡ end_of (n ++ take (x.offset - length n) k)
+  pub spot_within : (x : Spot) → IsIn t x → length n ≤ x.offset → x.offset ≤ length n + length k → x ≡ end_of (n ++ take (x.offset - length n) k)
   spot_within x x_in from to = x_in.is ∙ ap end_of (ap (take x.offset) lies.text_is ∙ (take_both x.offset n (k ++ lies.behind)
       ∙ (ap (λ (xs : List ℕ). xs ++ take (x.offset - length n) (k ++ lies.behind)) (take_all x.offset n from) ∙ ap (λ (xs : List ℕ). n ++ xs) (take-append-le (x.offset - length n) k lies.behind (omega (arith, to))))))
 
@@ -331,11 +331,11 @@ follows_drop m (suc j) [] h = tt
 follows_drop m (suc j) ((u, None) ∷ g) h = follows_drop m j g h
 follows_drop m (suc j) ((u, Some i) ∷ g) h = follows_weaker m (i + 1) (drop j g) (omega (arith, h.0)) (follows_drop (i + 1) j g h.1)
 
-follows_untagged : (m : ℕ) (t : List ℕ) (g : Tagged) → Follows m g → Follows m (untagged t ++ g)
+pub follows_untagged : (m : ℕ) (t : List ℕ) (g : Tagged) → Follows m g → Follows m (untagged t ++ g)
 follows_untagged m [] g h = h
 follows_untagged m (u ∷ t) g h = follows_untagged m t g h
 
-follows_edited : (m i j : ℕ) (g : Tagged) (t : List ℕ) → i ≤ j → Follows m g → Follows m (take i g ++ (untagged t ++ drop j g))
+pub follows_edited : (m i j : ℕ) (g : Tagged) (t : List ℕ) → i ≤ j → Follows m g → Follows m (take i g ++ (untagged t ++ drop j g))
 follows_edited m zero j g t le h = follows_untagged m t (drop j g) (follows_drop m j g h)
 follows_edited m (suc i) j [] t le h = follows_untagged m t (drop j []) (follows_drop m j [] tt)
 follows_edited m (suc i) zero (x ∷ g) t le h = absurd (let z : ⊥ = omega (arith, le) in z)

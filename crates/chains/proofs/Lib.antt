@@ -6,6 +6,8 @@ pub mod StandParts
 pub mod StretchLemmas
 pub mod WeaverLemmas
 pub mod EditLemmas
+pub mod RestLemmas
+pub mod FrontLemmas
 pub mod SquashLemmas
 pub mod ChainLemmas
 pub mod SizeLemmas

@@ -35,11 +35,11 @@ pub slice-untagged : (us : List ℕ) (d e : ℕ) → slice_range (untagged us) d
 slice-untagged us d e = ap (take (e - d)) (drop-untagged d us) ∙ take-untagged (e - d) (drop d us)
 
 -- pieces begin with what is kept before the first
-tag_first : (i : ℕ) (q : List Piece) (tail : List ℕ) → (more : Tagged) × (tag_of i q tail ≡ tagged_from i (first_kept q tail) ++ (untagged (first_new q) ++ more))
+pub tag_first : (i : ℕ) (q : List Piece) (tail : List ℕ) → (more : Tagged) × (tag_of i q tail ≡ tagged_from i (first_kept q tail) ++ (untagged (first_new q) ++ more))
 tag_first i [] tail = ([], sym (append-nil (tagged_from i tail)))
 tag_first i (p ∷ ps) tail = (tag_of (i + length p.kept + length p.old) ps tail, refl)
 
-old_first : (q : List Piece) (tail : List ℕ) → (more : List ℕ) × (old_of q tail ≡ first_kept q tail ++ more)
+pub old_first : (q : List Piece) (tail : List ℕ) → (more : List ℕ) × (old_of q tail ≡ first_kept q tail ++ more)
 old_first [] tail = ([], sym (append-nil tail))
 old_first (p ∷ ps) tail = (p.old ++ old_of ps tail, refl)
 

@@ -61,7 +61,7 @@ pub some-append : (f q : List Piece) → AllSome f → AllSome q → AllSome (f 
 some-append [] q here there = there
 some-append (p ∷ f) q here there = (here.0, some-append f q here.1 there)
 
-abbrev cut_at : List ℕ → List ℕ → List ℕ → Piece → Cut
+abbrev pub cut_at : List ℕ → List ℕ → List ℕ → Piece → Cut
 cut_at a b put p = record { old = end_of (a ++ p.kept); old_end = end_of (a ++ p.kept ++ p.old); new = end_of (b ++ p.kept); new_end = end_of (b ++ p.kept ++ p.new); text = length put }
 
 regroup : (a k o x : List ℕ) → a ++ k ++ o ++ x ≡ a ++ (k ++ (o ++ x))

@@ -5,6 +5,7 @@ pub mod Spots
 pub mod Weaving
 pub mod Squash
 pub mod Walking
+pub mod Moving
 pub mod Chain
 pub mod LeadsDown
 pub mod Changes

@@ -1,5 +1,5 @@
 -- A walk over the stretches of a layer: what stands between two spots of the text that it gives.
-use Rattle.std.specs.Prelude.{◌≡◌, ◌⊎◌, ℕ, ◌+◌, ◌-◌, ◌<◌, ◌≤◌, List, [], ◌∷◌, ◌++◌, length, take, slice_range, Option, Some, None}
+use Rattle.std.specs.Prelude.{◌≡◌, ◌⊎◌, ℕ, ◌+◌, ◌-◌, ◌<◌, ◌≤◌, List, [], ◌∷◌, ◌++◌, length, take, slice_get, slice_range, Option, Some, None}
 use Rattle.points.specs.declared.limits.TheConstants.{MAX_UNITS}
 use Rattle.patch.specs.Tagged.{Tagged, tagged_from, untagged, units_of, edited}
 use Rattle.patch.proofs.Pieces.{Piece, old_of, new_of, tag_of}
@@ -132,3 +132,11 @@ pub record CanWeavePut (o : Overlay) (cut : Cut) (from to : Spot) (w : Weaver) :
   pub from_in : IsIn made from
   pub to_in : IsIn made to
   pub weaves : Weaves text whole (untagged (slice_range stretch (from.offset - length news) (to.offset - length news)) ++ left) w
+
+-- the layer's change at this place is the cut, and the spot stands in what it put in, or at an end of it
+pub record Opens (s : List ℕ) (o : Overlay) (j : ℕ) (cut : Cut) (last : Spot) : Type 0 where
+  pub laid : IsLaid s o
+  pub at : slice_get o.cuts.items j ≡ Some cut
+  pub last_in : IsIn (units_of (tags_of s o)) last
+  pub behind : cut.new.offset ≤ last.offset
+  pub within : last.offset ≤ cut.new_end.offset

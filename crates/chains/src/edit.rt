@@ -1,14 +1,18 @@
 //! Edits of a layer: a layer that stands in its place, with some units of its text replaced.
-ghost use Rattle.std.specs.Prelude.{◌≡◌, ℕ, ◌+◌, ◌-◌, ◌≤◌, ◌++◌, [], ◌∷◌, List, length, slice_range, OnOk, IfOk, IfSome};
+ghost use Rattle.std.specs.Prelude.{◌≡◌, ℕ, ◌+◌, ◌-◌, ◌≤◌, ◌++◌, [], ◌∷◌, List, length, take, drop, slice_range, OnOk, IfOk, IfSome};
 ghost use Rattle.points.specs.declared.limits.TheConstants.{MAX_UNITS};
 ghost use Rattle.patch.specs.Tagged.{Tagged, tagged, tagged_from, untagged, units_of, edited};
 ghost use Rattle.chains.specs.declared.overlay.Cut.{Cut};
-ghost use Rattle.chains.specs.Overlay.{end_of, IsLaid, tags_of};
-ghost use Rattle.chains.specs.Weaving.{Weaves, IsStretch};
-ghost use Rattle.chains.specs.Walking.{IsIn, IsLater, IsEarlier, Lies, IsOverlap, CanOverlap, Passes, CanPass, CanWeave, IsEdit, IsKept, CanWeaveKept, HasPut, CanWeavePut};
+ghost use Rattle.patch.proofs.Pieces.{Piece};
+ghost use Rattle.chains.specs.Overlay.{end_of, cuts_of, puts_of, IsLaid, tags_of};
+ghost use Rattle.chains.specs.Moving.{IsRest, IsTail};
+ghost use Rattle.chains.specs.Weaving.{IsWoven, Weaves, IsStretch};
+ghost use Rattle.chains.specs.Walking.{IsIn, IsLater, IsEarlier, Lies, IsOverlap, IsEdit, Opens, HasPut, CanWeavePut};
 
+use crate::moving::{Shift, move_cuts};
 use crate::overlay::{Cut, Overlay};
 use crate::spot::{Spot, ahead};
+use crate::stand::first_past;
 use crate::weaver::Weaver;
 use line_text::LineText;
 use points::{NoMemory, Point};
@@ -83,7 +87,7 @@ impl Overlay {
     {
         let feeds = self.text.extent().row as usize + put.extent().row as usize;
         let units = self.text.len() + put.len();
-        let mut weaver = Weaver::new(alloc, self.cuts.len() + 1, units, feeds)?;
+        let mut weaver = self.front(alloc, from, units, feeds)?;
         let start = Spot {
             offset: 0,
             point: Point { row: 0, column: 0 },
@@ -92,51 +96,150 @@ impl Overlay {
             offset: put.len() as u32,
             point: put.extent(),
         };
-        self.weave(&mut weaver, start, from)?;
         weaver.put(put.part(0, put.len()), start, end)?;
-        self.weave(&mut weaver, to, self.end)?;
-        weaver.finish(below)
+        self.completed(weaver, below, to)
     }
 
-    /// Gives the weaver what stands between two spots of the layer's text.
-    pub(crate) fn weave(&self, weaver: &mut Weaver, from: Spot, to: Spot) -> Result<(), NoMemory>
-        requires { CanWeave self.now from to weaver.old }
-        ensures { OnOk result ((s : List ℕ) → (whole left : Tagged) → IsLaid s self.now
-            → IsIn (units_of (tags_of s self.now)) from → IsIn (units_of (tags_of s self.now)) to
-            → Weaves s whole (slice_range (tags_of s self.now) from.offset to.offset ++ left) weaver.old
-            → Weaves s whole left weaver.new) }
-    {
-        let mut old = Spot {
-            offset: 0,
-            point: Point { row: 0, column: 0 },
-        };
-        let mut new = old;
-        for cut in &self.cuts {
-            self.weave_cut(weaver, *cut, old, new, from, to)?;
-            old = cut.old_end;
-            new = cut.new_end;
-        }
-        weave_kept(weaver, old, new, self.end, from, to)
-    }
-
-    // Gives the weaver what of a change, and of what is kept before it, stands between two spots. The walk
-    // has come to `old` in the text below, and to `new` in the layer's text.
-    fn weave_cut(
+    // A weaver that has come to a spot of the layer's text, with room for so many units put in and line
+    // feeds among them. What the layer has up to there is taken over at once.
+    fn front(
         &self,
-        weaver: &mut Weaver,
+        alloc: Global,
+        from: Spot,
+        units: usize,
+        feeds: usize,
+    ) -> Result<Weaver, NoMemory>
+        requires { (s : List ℕ) × (below to : Spot) × (put : List ℕ) × IsEdit s self.now below from to put }
+        ensures { IfOk result (λ made. (s : List ℕ) → (below to : Spot) → (put : List ℕ) → IsEdit s self.now below from to put
+            → Weaves s (edited (tags_of s self.now) from.offset to.offset put)
+            (untagged put ++ (slice_range (tags_of s self.now) to.offset self.now.end.offset ++ [])) made) }
+    {
+        let next = first_past(self.cuts.as_slice(), from.offset);
+        if next == 0 {
+            let mut weaver = Weaver::new(alloc, self.cuts.len() + 1, units, feeds)?;
+            let start = Spot {
+                offset: 0,
+                point: Point { row: 0, column: 0 },
+            };
+            weaver.keep(start, from)?;
+            return Ok(weaver);
+        }
+        let cut = self.cuts[next - 1];
+        let mut weaver = self.opened(
+            alloc,
+            next - 1,
+            cut,
+            earlier(cut.new_end, from),
+            units,
+            feeds,
+        )?;
+        let last = later(cut.new_end, from);
+        weaver.keep(cut.old_end, ahead(cut.old_end, cut.new_end, last))?;
+        Ok(weaver)
+    }
+
+    // A weaver that has the changes before the one at `index`, and that one open, with what it put in up to
+    // `last`.
+    fn opened(
+        &self,
+        alloc: Global,
+        index: usize,
         cut: Cut,
+        last: Spot,
+        units: usize,
+        feeds: usize,
+    ) -> Result<Weaver, NoMemory>
+        requires { (s : List ℕ) × Opens s self.now index cut last }
+        ensures woven { IfOk result (λ made. (s : List ℕ) → Opens s self.now index cut last → IsWoven s (take last.offset (tags_of s self.now)) made) }
+        ensures old { IfOk result (λ made. made.at_old ≡ cut.old_end) }
+    {
+        let end = cut.text + (last.offset - cut.new.offset);
+        let mut cuts = Vec::with_capacity(alloc, self.cuts.len() + 2)?;
+        cuts.extend_from_slice(&self.cuts.as_slice()[..index])?;
+        let mut text = LineText::with_room(alloc, units, feeds)?;
+        text.append(self.text.part(0, end as usize))?;
+        // Each change before has as many units kept before it in one text as in the other.
+        let both = u64::from(cut.old.offset) + 2 * u64::from(cut.text);
+        Ok(Weaver {
+            cuts,
+            text,
+            open_old: cut.old,
+            open_new: cut.new,
+            open_text: cut.text,
+            at_old: cut.old_end,
+            at_new: last,
+            units: both - u64::from(cut.new.offset),
+        })
+    }
+
+    // The layer that the weaver makes with what this one has behind a spot of its text. The text below ends
+    // at `below`.
+    fn completed(&self, mut weaver: Weaver, below: Spot, to: Spot) -> Result<Overlay, NoMemory>
+        requires { (s : List ℕ) × (whole : Tagged) × IsTail s self.now below to whole weaver }
+        ensures laid { IfOk result (λ made. (s : List ℕ) → (whole : Tagged) → IsTail s self.now below to whole weaver → IsLaid s made) }
+        ensures tags { IfOk result (λ made. (s : List ℕ) → (whole : Tagged) → IsTail s self.now below to whole weaver → tags_of s made ≡ whole) }
+    {
+        let next = first_past(self.cuts.as_slice(), to.offset);
+        if next == 0 {
+            return self.followed(weaver, below, 0, to, to);
+        }
+        let cut = self.cuts[next - 1];
+        self.weave_put(&mut weaver, cut, to, self.end)?;
+        let last = later(cut.new_end, to);
+        let old = ahead(cut.old_end, cut.new_end, last);
+        self.followed(weaver, below, next, old, last)
+    }
+
+    // The layer that the weaver makes with the changes of this one from the one at `next` on. What is kept
+    // before them stands behind `old` in the text below, and behind `new` in this layer's text.
+    fn followed(
+        &self,
+        mut weaver: Weaver,
+        below: Spot,
+        next: usize,
         old: Spot,
         new: Spot,
-        from: Spot,
-        to: Spot,
-    ) -> Result<(), NoMemory>
-        requires { (rest : List Cut) × CanPass self.now from to (cut ∷ rest) old new weaver.old }
-        ensures { OnOk result ((s t : List ℕ) → (whole left : Tagged) → (rest : List Cut)
-            → Passes s t self.now from to whole left (cut ∷ rest) old new weaver.old
-            → Passes s t self.now from to whole left rest cut.old_end cut.new_end weaver.new) }
+    ) -> Result<Overlay, NoMemory>
+        requires { (s : List ℕ) × (whole : Tagged) × (below ≡ end_of s) × IsRest s self.now next old new whole weaver }
+        ensures laid { IfOk result (λ made. (s : List ℕ) → (whole : Tagged) → below ≡ end_of s → IsRest s self.now next old new whole weaver → IsLaid s made) }
+        ensures tags { IfOk result (λ made. (s : List ℕ) → (whole : Tagged) → below ≡ end_of s → IsRest s self.now next old new whole weaver → tags_of s made ≡ whole) }
     {
-        weave_kept(weaver, old, new, cut.new, from, to)?;
-        self.weave_put(weaver, cut, from, to)
+        weaver.at_old = old;
+        weaver.close()?;
+        let text_from = self.text_before(next);
+        let by = Shift {
+            from: new,
+            to: weaver.at_new,
+            text_from,
+            text_to: weaver.text.len() as u32,
+        };
+        move_cuts(&mut weaver.cuts, &self.cuts.as_slice()[next..], by)?;
+        weaver
+            .text
+            .append(self.text.part(text_from as usize, self.text.len()))?;
+        let end = ahead(weaver.at_new, new, self.end);
+        // What is kept counts on both sides alike.
+        let both = u64::from(below.offset) + 2 * weaver.text.len() as u64;
+        Ok(Overlay {
+            cuts: weaver.cuts,
+            text: weaver.text,
+            end,
+            units: both - u64::from(end.offset),
+        })
+    }
+
+    // How many units the changes before the one at `next` put in.
+    fn text_before(&self, next: usize) -> u32
+        requires { length self.now.text ≤ MAX_UNITS }
+        ensures { (olds news puts : List ℕ) → (pieces : List Piece) → drop next self.now.cuts.items ≡ cuts_of olds news puts pieces
+            → self.now.text ≡ puts ++ puts_of pieces → result ≡ length puts }
+    {
+        let cuts = self.cuts.as_slice();
+        if next < cuts.len() {
+            cuts[next].text
+        } else {
+            self.text.len() as u32
+        }
     }
 
     // Gives the weaver what the change put in between two spots.
@@ -154,26 +257,4 @@ impl Overlay {
         let last = (cut.text + (part.to.offset - cut.new.offset)) as usize;
         weaver.put(self.text.part(first, last), part.from, part.to)
     }
-}
-
-// Gives the weaver what is kept between two spots, of a stretch from `new` to `end` that stands in the
-// text below from `old` on.
-fn weave_kept(
-    weaver: &mut Weaver,
-    old: Spot,
-    new: Spot,
-    end: Spot,
-    from: Spot,
-    to: Spot,
-) -> Result<(), NoMemory>
-    requires { CanWeaveKept weaver.old old new end from to }
-    ensures { OnOk result ((s t d n k : List ℕ) → (whole left : Tagged) → IsKept s d k old → Lies t n k new end
-        → IsIn t from → IsIn t to
-        → Weaves s whole (slice_range (tagged_from (length d) k) (from.offset - length n) (to.offset - length n) ++ left) weaver.old
-        → Weaves s whole left weaver.new) }
-{
-    let Some(part) = overlap_of(new, end, from, to) else {
-        return Ok(());
-    };
-    weaver.keep(ahead(old, new, part.from), ahead(old, new, part.to))
 }

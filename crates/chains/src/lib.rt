@@ -18,6 +18,7 @@ pub mod laws;
 mod line;
 mod lookup;
 mod measure;
+mod moving;
 mod overlay;
 mod pieces;
 mod ranges;

@@ -105,8 +105,8 @@ impl Weaver {
         })
     }
 
-    // Ends the open change, where it takes something out or puts something in.
-    fn close(&mut self) -> Result<(), NoMemory>
+    /// Ends the open change, where it takes something out or puts something in.
+    pub(crate) fn close(&mut self) -> Result<(), NoMemory>
         requires { (s : List ℕ) × (g : Tagged) × (IsWoven s g self.old) × (length s ≤ MAX_UNITS) × (length g ≤ MAX_UNITS) }
         ensures ok { OnOk result ((s : List ℕ) → (g : Tagged) → IsWoven s g self.old → IsClosed s g self.new) }
         ensures old { self.new.at_old ≡ self.old.at_old }
