@@ -237,7 +237,7 @@ read|{\"do\":\"edit\",\"range\":[0,0,0,0],\"text\":\"\"},{\"do\":\"squash\"}\n\
 read|{\"do\":\"edit\",\"range\":[0,0,0,0],\"text\":\"\"},{\"do\":\"take\",\"snapshot\":0}\n\
 1 2 UnknownSnapshot|{\"do\":\"edit\",\"range\":[0,0,0,0],\"text\":\"\"},{\"do\":\"release\",\"snapshot\":0}\n\
 1 2 UnknownSnapshot|{\"do\":\"edit\",\"range\":[0,0,0,0],\"text\":\"\"},{\"do\":\"read\",\"snapshot\":0,\"reads\":[]}\n\
-1 2 BadShape|{\"do\":\"edit\",\"range\":[0,0,0,0],\"text\":\"\"},{\"do\":\"send\",\"snapshot\":-1,\"reads\":[]}\n\
+1 2 UnknownSnapshot|{\"do\":\"edit\",\"range\":[0,0,0,0],\"text\":\"\"},{\"do\":\"send\",\"snapshot\":-1,\"reads\":[]}\n\
 1 2 BadNumber|{\"do\":\"edit\",\"range\":[0,0,0,0],\"text\":\"\"},{\"do\":\"mark\",\"id\":-1,\"range\":[1,0,0,0],\"exclusive\":true}\n\
 read|{\"do\":\"edit\",\"range\":[0,0,0,0],\"text\":\"\"},{\"do\":\"mark\",\"id\":4294967295,\"range\":[0,0,0,0],\"exclusive\":true}\n\
 1 1 BadNumber|{\"do\":\"mark\",\"id\":0,\"range\":[1,0,0,0],\"exclusive\":false}\n\

@@ -42,6 +42,7 @@ command_built (command.Watch id) h = refl
 command_built (command.Unwatch id) h = refl
 command_built (command.Take snapshot) h = refl
 command_built (command.Read snapshot reads) h = all_hold IsReadableRead has_built_read read_built reads h.1
+command_built (command.Send snapshot reads) h = all_hold IsReadableRead has_built_read read_built reads h.1
 command_built (command.Release snapshot) h = refl
 command_built c h = absurd h
 

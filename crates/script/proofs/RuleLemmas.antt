@@ -142,6 +142,7 @@ command_is_built (command.Watch id) h = refl
 command_is_built (command.Unwatch id) h = refl
 command_is_built (command.Take k) h = refl
 command_is_built (command.Read k reads) h = reads_are_built reads h
+command_is_built (command.Send k reads) h = reads_are_built reads h
 command_is_built (command.Release k) h = refl
 command_is_built c h = absurd (false≢true h)
 
@@ -236,6 +237,9 @@ readable (command.Take k) built e = (whole_first MAX_ID k false e).0
 readable (command.Read k reads) built e =
     let first = whole_first MAX_ID k _ e in
     (first.0, reads_readable reads built (or_false (any_item (read_breaks wrong_number false) (items_of (map read_value reads))) false first.1).0)
+readable (command.Send k reads) built e =
+    let first = whole_first MAX_ID k _ e in
+    (first.0, reads_readable reads built (or_false (any_item (read_breaks wrong_number false) (items_of (map read_value reads))) false first.1).0)
 readable (command.Release k) built e = (whole_first MAX_ID k false e).0
 readable c built e = absurd (false≢true built)
 
@@ -253,6 +257,7 @@ needles_there (r ∷ rs) built e =
 
 needles : (c : Command) → has_built_word c ≡ true → command_breaks empty_needle false (command_value c) ≡ false → has_needles c ≡ true
 needles (command.Read k reads) built e = needles_there reads built (or_false (any_item (read_breaks empty_needle false) (items_of (map read_value reads))) false e).0
+needles (command.Send k reads) built e = needles_there reads built (or_false (any_item (read_breaks empty_needle false) (items_of (map read_value reads))) false e).0
 needles c built e = refl
 
 -- ---- what a command counts
@@ -296,6 +301,8 @@ counted b (command.Unwatch id) h = record { reading = refl; finds = refl; watche
 counted b (command.Take k) h = record { reading = refl; finds = refl; watches = refl; live = rw (le-leb k MAX_ID h) refl; turn = λ unknown taken hands. took b k h taken hands }
 counted b (command.Read k reads) h =
     record { reading = omega (arith, items_counted reads); finds = refl; watches = refl; live = refl; turn = λ unknown taken hands. sym (named b k h.0) ∙ not-false (names_one_of b.live (within MAX_ID k)) unknown }
+counted b (command.Send k reads) h =
+    record { reading = omega (arith, items_counted reads); finds = refl; watches = refl; live = rw (le-leb k MAX_ID h.0) refl; turn = λ unknown taken hands. sym (named b k h.0) ∙ not-false (names_one_of b.live (within MAX_ID k)) unknown }
 counted b (command.Release k) h =
     record { reading = refl; finds = refl; watches = refl; live = rw (le-leb k MAX_ID h) refl; turn = λ unknown taken hands. sym (named b k h) ∙ not-false (names_one_of b.live (within MAX_ID k)) unknown }
 counted b c h = absurd h

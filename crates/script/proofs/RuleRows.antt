@@ -158,6 +158,15 @@ find_is_built : built_broken (reading 7 (item (find (codes "b") 1000) no_items))
 unfolding built_broken range_of
 find_is_built = refl
 
+-- a `send` is built, and needs a live number too
+send_is_built : built_broken (send 7) ≡ None
+unfolding built_broken range_of
+send_is_built = refl
+
+sent_unknown : built_broken (send 8) ≡ Some UnknownSnapshot
+unfolding built_broken range_of
+sent_unknown = refl
+
 -- a number that was ended may be taken again, and one that is live may not
 taken_after_release : are_in_turn [] (command.Take 1 ∷ command.Release 1 ∷ command.Take 1 ∷ []) ≡ true
 taken_after_release = refl

@@ -19,7 +19,7 @@ use Rattle.machine.specs.declared.reads.Encoding.TheVariants as encoding
 use Rattle.script.specs.Limits.{IsRangeWithin, IsReadableRead, IsReadable}
 use Rattle.script.specs.declared.limits.TheConstants.{MAX_SHOWN, MAX_HITS, MAX_ID}
 use Rattle.script.specs.Parts.{within, coordinate, point_from, range_of}
-use Rattle.script.specs.ScriptDocument.{edit_of, look_of, ranged_of, bare_of, unmark_of, mark_range_of, exclusive_of, compare_of, mark_of, how_of, marks_of, watch_of, unwatch_of, on_marks_of, size_of, look_read_of, find_of, pattern_of, read_of, reads_of, take_of, read_command_of, release_of, on_snapshots_of, on_text_of, command_of, commands_of, session_of, sessions_of, encoding_of, text_opening_of, file_opening_of, opening_of, reading}
+use Rattle.script.specs.ScriptDocument.{edit_of, look_of, ranged_of, bare_of, unmark_of, mark_range_of, exclusive_of, compare_of, mark_of, how_of, marks_of, watch_of, unwatch_of, on_marks_of, size_of, look_read_of, find_of, pattern_of, read_of, reads_of, take_of, asking_of, release_of, on_snapshots_of, on_text_of, command_of, commands_of, session_of, sessions_of, encoding_of, text_opening_of, file_opening_of, opening_of, reading}
 use Rattle.script.specs.ScriptValue.{encoding_word, how_word, read_value, range_value, command_value, session_value, opening_value, script_value}
 use Rattle.script.specs.TranscriptDocument.{list_value}
 use Rattle.script.proofs.Counting.{range_in_order}
@@ -63,7 +63,7 @@ reads_again [] h = refl
 reads_again (r ∷ rs) h = rw (read_again r h.0, reads_again rs h.1) refl
 
 command_again : (c : Command) → IsReadable c → command_of (command_value c) ≡ Some c
-unfolding command_of on_text_of on_marks_of ranged_of bare_of edit_of look_of unmark_of mark_range_of exclusive_of compare_of mark_of marks_of watch_of unwatch_of on_snapshots_of take_of read_command_of release_of
+unfolding command_of on_text_of on_marks_of ranged_of bare_of edit_of look_of unmark_of mark_range_of exclusive_of compare_of mark_of marks_of watch_of unwatch_of on_snapshots_of take_of asking_of release_of
 command_again (command.Edit range text) h = rw (range_again range h) refl
 command_again (command.Text range limit) h = rw (range_again range h.0, le-leb limit MAX_SHOWN h.1) refl
 command_again command.Undo h = refl
@@ -79,6 +79,7 @@ command_again (command.Watch id) h = rw (le-leb id MAX_ID h) refl
 command_again (command.Unwatch id) h = rw (le-leb id MAX_ID h) refl
 command_again (command.Take snapshot) h = rw (le-leb snapshot MAX_ID h) refl
 command_again (command.Read snapshot reads) h = rw (le-leb snapshot MAX_ID h.0, reads_again reads h.1) refl
+command_again (command.Send snapshot reads) h = rw (le-leb snapshot MAX_ID h.0, reads_again reads h.1) refl
 command_again (command.Release snapshot) h = rw (le-leb snapshot MAX_ID h) refl
 command_again c h = absurd h
 

@@ -23,7 +23,7 @@ use Rattle.machine.specs.declared.reads.Encoding.TheVariants as encoding
 use Rattle.points.specs.declared.limits.TheConstants.{MAX_COORD}
 use Rattle.script.specs.Limits.{IsRangeWithin, IsReadableRead, IsReadable}
 use Rattle.script.specs.declared.limits.TheConstants.{MAX_SHOWN, MAX_HITS, MAX_ID}
-use Rattle.script.specs.ScriptDocument.{edit_of, look_of, ranged_of, bare_of, unmark_of, mark_range_of, exclusive_of, compare_of, mark_of, how_of, marks_of, watch_of, unwatch_of, on_marks_of, size_of, look_read_of, find_of, pattern_of, read_of, reads_of, take_of, listed_reads, read_command_of, release_of, on_snapshots_of, on_text_of, command_of, commands_of, session_of, sessions_of, encoding_of, encoding_in, text_opening_of, file_opening_of, opening_of, reading}
+use Rattle.script.specs.ScriptDocument.{edit_of, look_of, ranged_of, bare_of, unmark_of, mark_range_of, exclusive_of, compare_of, mark_of, how_of, marks_of, watch_of, unwatch_of, on_marks_of, size_of, look_read_of, find_of, pattern_of, read_of, reads_of, take_of, listed_reads, asking_of, release_of, on_snapshots_of, on_text_of, command_of, commands_of, session_of, sessions_of, encoding_of, encoding_in, text_opening_of, file_opening_of, opening_of, reading}
 use Rattle.script.specs.Parts.{member_count, item_count, string_in, whole_of, whole_in, flag_in, coordinate, point_from, range_by, range_between, range_of, range_in, is_word}
 use Rattle.script.specs.Rules.{is_on_marks, is_on_snapshots, is_version_one, is_one}
 use Rattle.script.specs.ScriptValue.{encoding_word, how_word, read_value, range_value, command_value, session_value, opening_value, script_value}
@@ -510,29 +510,38 @@ reads_exact (item d ds) rs sorted e =
     let more = reads_exact ds xs sorted.1 others in
     subst (λ ys. (item d ds ≡ items_of (map read_value ys)) × AllByRecursion IsReadableRead ys) is (ap₂ item one.0 more.0, (one.1, more.1))))
 
-read_command_exact : (d : Data) (c : Command) → IsInKeyOrder d → string_in (codes "do") d ≡ Some (codes "read") → read_command_of d ≡ Some c → (d ≡ command_value c) × IsReadable c
-unfolding read_command_of
-read_command_exact d c sorted word e =
-    let t = test_some (member_count d == 3) _ c e in
-    option_and_then_some (λ k. option_map (command.Read k) (listed_reads d)) (whole_in MAX_ID (codes "snapshot") d) c t.1 (λ k k_is more.
-    behind_map (command.Read k) (listed_reads d) c more (λ rs rs_is is.
+-- a number and reads are of three members, so a command that has them with this word is its value
+asking_exact : (make : ℕ → List Read → Command) (say : List ℕ) (d : Data) (c : Command)
+    → ((k : ℕ) (rs : List Read) → command_value (make k rs) ≡ object (member (codes "do") (string say) (member (codes "reads") (list_value read_value rs) (member (codes "snapshot") (whole k) no_members))))
+    → ((k : ℕ) (rs : List Read) → (k ≤ MAX_ID) × AllByRecursion IsReadableRead rs → IsReadable (make k rs))
+    → IsInKeyOrder d → string_in (codes "do") d ≡ Some say → option_map (λ a. make a.0 a.1) (asking_of d) ≡ Some c → (d ≡ command_value c) × IsReadable c
+unfolding asking_of
+asking_exact make say d c value_is readable sorted word e =
+    behind_map (λ a. make a.0 a.1) (asking_of d) c e (λ a a_is made_is.
+    let t = test_some (member_count d == 3) _ a a_is in
+    option_and_then_some (λ k. option_map (λ rs. (k, rs)) (listed_reads d)) (whole_in MAX_ID (codes "snapshot") d) a t.1 (λ k k_is more.
+    behind_map (λ rs. (k, rs)) (listed_reads d) a more (λ rs rs_is is.
     option_and_then_some reads_of (option_and_then as_array (get (codes "reads") d)) rs rs_is (λ ds ds_is of.
     let p = three_of (codes "do") (codes "reads") (codes "snapshot") d ((refl, (refl, tt)), ((refl, tt), (tt, tt))) sorted (eqb-true (member_count d) 3 t.0) (there as_str _ _ word) (there as_array _ _ ds_is) (there (whole_of MAX_ID) _ _ k_is) in
     let within : IsInKeyOrder (object (member (codes "do") p.first (member (codes "reads") p.second (member (codes "snapshot") p.third no_members)))) = subst IsInKeyOrder p.is sorted in
-    let x = string_exact p.first (codes "read") (subst (λ v. string_in (codes "do") v ≡ Some (codes "read")) p.is word) in
+    let x = string_exact p.first say (subst (λ v. string_in (codes "do") v ≡ Some say) p.is word) in
     let y = array_exact p.second ds (subst (λ v. option_and_then as_array (get (codes "reads") v) ≡ Some ds) p.is ds_is) in
     let z = whole_exact MAX_ID k p.third (subst (λ v. whole_in MAX_ID (codes "snapshot") v ≡ Some k) p.is k_is) in
     let exact = reads_exact ds rs (subst IsInKeyOrder y within.1.1.0) of in
-    subst (λ v. (d ≡ command_value v) × IsReadable v) is (three_made (codes "do") (codes "reads") (codes "snapshot") d p _ _ _ x (y ∙ ap array exact.0) z.0, (z.1, exact.1)))))
+    let made = three_made (codes "do") (codes "reads") (codes "snapshot") d p _ _ _ x (y ∙ ap array exact.0) z.0 in
+    subst (λ v. (d ≡ command_value v) × IsReadable v) (ap (λ b. make b.0 b.1) is ∙ made_is) (made ∙ sym (value_is k rs), readable k rs (z.1, exact.1))))))
 
 on_snapshots_exact : (d : Data) (c : Command) → IsInKeyOrder d → on_snapshots_of d ≡ Some c → (d ≡ command_value c) × IsReadable c
 unfolding on_snapshots_of
 on_snapshots_exact d c sorted e =
     elim (either_some (is_word (string_in (codes "do") d) (codes "take")) (take_of d) _ c e) [
       | inl is ↦ take_exact d c sorted (word_exact _ _ is.0) is.1
-      | inr rest1 ↦ elim (either_some (is_word (string_in (codes "do") d) (codes "read")) (read_command_of d) _ c rest1) [
-        | inl is ↦ read_command_exact d c sorted (word_exact _ _ is.0) is.1
-        | inr rest2 ↦ let is = test_some (is_word (string_in (codes "do") d) (codes "release")) (release_of d) c rest2 in release_exact d c sorted (word_exact _ _ is.0) is.1
+      | inr rest1 ↦ elim (either_some (is_word (string_in (codes "do") d) (codes "read")) (option_map (λ a. command.Read a.0 a.1) (asking_of d)) _ c rest1) [
+        | inl is ↦ asking_exact command.Read (codes "read") d c (λ k rs. refl) (λ k rs h. h) sorted (word_exact _ _ is.0) is.1
+        | inr rest2 ↦ elim (either_some (is_word (string_in (codes "do") d) (codes "send")) (option_map (λ a. command.Send a.0 a.1) (asking_of d)) _ c rest2) [
+          | inl is ↦ asking_exact command.Send (codes "send") d c (λ k rs. refl) (λ k rs h. h) sorted (word_exact _ _ is.0) is.1
+          | inr rest3 ↦ let is = test_some (is_word (string_in (codes "do") d) (codes "release")) (release_of d) c rest3 in release_exact d c sorted (word_exact _ _ is.0) is.1
+        ]
       ]
     ]
 

@@ -17,7 +17,7 @@ use Rattle.script.specs.Parts.{member_count, items_in, string_in, whole_of, rang
 use Rattle.script.specs.Rows as kind
 use Rattle.script.specs.Rows.{Kind, Field, how_words}
 use Rattle.script.specs.Rules.{command_breaks, read_breaks, fields_break, any_field_breaks, field_breaks, with_reads, wrong_kind, wrong_number, wrong_encoding, empty_needle, wrong_name, any_item, save_name, names_in, reads_in, is_misshapen, is_unbuilt_read, built_words, built_reads, is_one_of}
-use Rattle.script.specs.ScriptDocument.{edit_of, look_of, ranged_of, bare_of, unmark_of, mark_range_of, exclusive_of, compare_of, mark_of, how_of, marks_of, watch_of, unwatch_of, on_marks_of, size_of, look_read_of, find_of, pattern_of, read_of, reads_of, take_of, read_command_of, release_of, on_snapshots_of, on_text_of, command_of}
+use Rattle.script.specs.ScriptDocument.{edit_of, look_of, ranged_of, bare_of, unmark_of, mark_range_of, exclusive_of, compare_of, mark_of, how_of, marks_of, watch_of, unwatch_of, on_marks_of, size_of, look_read_of, find_of, pattern_of, read_of, reads_of, take_of, asking_of, release_of, on_snapshots_of, on_text_of, command_of}
 use Rattle.script.proofs.RuleLemmas.{or_false, there}
 use Rattle.script.proofs.ScriptExact.{word_exact}
 use Rattle.serde_json.specs.Data.{Data, Items, no_items, item}
@@ -570,59 +570,88 @@ marks_shaped d kinds word =
     let h = how_there s.0 s.2 in
     shaped d fs _ row refl (two_plain command.Marks (λ x y. refl) (Some h.0) (range_of r.value)) (marks_by d v.value r.value s.0 h.0 _ has.0 word v.is r.is s.1 h.1 refl) (rw word refl)
 
--- reads of a snapshot
-read_command_by : (d v w : Data) (ds : Items) (o : Option ℕ) (p : Option (List Read)) → member_count d ≡ 3 → string_in (codes "do") d ≡ Some (codes "read") → get (codes "snapshot") d ≡ Some v → get (codes "reads") d ≡ Some w → as_array w ≡ Some ds
-    → whole_of MAX_ID v ≡ o → reads_of ds ≡ p → any_item (read_breaks wrong_number false) ds ≡ not (is_some p) → IsReadAs d (option_and_then (λ k. option_map (command.Read k) p) o)
-unfolding command_of on_snapshots_of read_command_of
-read_command_by d v w ds None p n word snapshot reads list is at number = (rw (n, word, snapshot, is) refl, rw (word, snapshot, reads, is) refl)
-read_command_by d v w ds (Some k) None n word snapshot reads list is at number = (rw (n, word, snapshot, reads, list, is, at) refl, rw (word, snapshot, reads, list, is, number) refl)
-read_command_by d v w ds (Some k) (Some rs) n word snapshot reads list is at number = (rw (n, word, snapshot, reads, list, is, at) refl, rw (word, snapshot, reads, list, is, number) refl)
+-- the command of a number and reads
+abbrev made_of : (ℕ → List Read → Command) → ℕ × List Read → Command
+made_of make a = make a.0 a.1
+
+-- a number and reads, each read or not
+asking_by : (d v w : Data) (ds : Items) (o : Option ℕ) (p : Option (List Read)) → member_count d ≡ 3 → get (codes "snapshot") d ≡ Some v → get (codes "reads") d ≡ Some w → as_array w ≡ Some ds → whole_of MAX_ID v ≡ o → reads_of ds ≡ p
+    → asking_of d ≡ option_and_then (λ k. option_map (λ rs. (k, rs)) p) o
+unfolding asking_of
+asking_by d v w ds None p n snapshot reads list is at = rw (n, snapshot, is) refl
+asking_by d v w ds (Some k) None n snapshot reads list is at = rw (n, snapshot, reads, list, is, at) refl
+asking_by d v w ds (Some k) (Some rs) n snapshot reads list is at = rw (n, snapshot, reads, list, is, at) refl
 
 or_no_more : (a : Bool) → (a || false) ≡ a
 or_no_more true = refl
 or_no_more false = refl
 
-read_needles : (o : Option ℕ) (p : Option (List Read)) (a b : Bool) → NeedlesAre p a → b ≡ a → HasNeedles (option_and_then (λ k. option_map (command.Read k) p) o) b
-read_needles None p a b h e = tt
-read_needles (Some k) None a b h e = tt
-read_needles (Some k) (Some rs) a b h e = e ∙ h
+asking_number : (o : Option ℕ) (p : Option (List Read)) (make : ℕ → List Read → Command) (b : Bool) → b ≡ not (is_some p) → (not (is_some o) || (b || false)) ≡ not (is_some (option_map (made_of make) (option_and_then (λ k. option_map (λ rs. (k, rs)) p) o)))
+asking_number None p make b e = refl
+asking_number (Some k) None make b e = rw e refl
+asking_number (Some k) (Some rs) make b e = rw e refl
 
-listed : (d w : Data) (ds : Items) → string_in (codes "do") d ≡ Some (codes "read") → get (codes "reads") d ≡ Some w → as_array w ≡ Some ds → reads_in d ≡ ds
-listed d w ds word reads list = rw (word, reads, list) refl
+asking_needles : (make : ℕ → List Read → Command) → ((k : ℕ) (rs : List Read) → has_needles (make k rs) ≡ list_all has_needle rs) → (o : Option ℕ) (p : Option (List Read)) (a b : Bool) → NeedlesAre p a → b ≡ a
+    → HasNeedles (option_map (made_of make) (option_and_then (λ k. option_map (λ rs. (k, rs)) p) o)) b
+asking_needles make each None p a b h e = tt
+asking_needles make each (Some k) None a b h e = tt
+asking_needles make each (Some k) (Some rs) a b h e = e ∙ h ∙ ap not (sym (each k rs))
+
+listed : (d w : Data) (ds : Items) → get (codes "reads") d ≡ Some w → as_array w ≡ Some ds → unwrap_or (option_and_then as_array (get (codes "reads") d)) no_items ≡ ds
+listed d w ds reads list = rw (reads, list) refl
 
 inner_reads : (w : Data) (ds : Items) → as_array w ≡ Some ds → any_item (read_breaks wrong_kind true) (items_in w) ≡ false → any_item (read_breaks wrong_kind true) ds ≡ false
 inner_reads w ds list e = subst (λ o. any_item (read_breaks wrong_kind true) (unwrap_or o no_items) ≡ false) list e
 
-record IsReadOf (d : Data) (ds : Items) : Type 0 where
-  encoding : command_breaks wrong_encoding false d ≡ (any_item (read_breaks wrong_encoding false) ds || false)
-  needle : command_breaks empty_needle false d ≡ (any_item (read_breaks empty_needle false) ds || false)
-  name : command_breaks wrong_name false d ≡ (any_item (read_breaks wrong_name false) ds || false)
+abbrev asking_fields : List Field
+asking_fields = (codes "snapshot", kind.whole MAX_ID) ∷ (codes "reads", kind.reads) ∷ []
 
-read_tests : (d v w : Data) (ds : Items) → string_in (codes "do") d ≡ Some (codes "read") → get (codes "snapshot") d ≡ Some v → get (codes "reads") d ≡ Some w → as_array w ≡ Some ds → IsReadOf d ds
-read_tests d v w ds word snapshot reads list = record { encoding = rw (word, snapshot, reads, list) refl; needle = rw (word, snapshot, reads, list) refl; name = rw (word, snapshot, reads, list) refl }
+record IsReadOf (d v : Data) (ds : Items) : Type 0 where
+  number : fields_break (with_reads wrong_number false) false 1 d asking_fields ≡ (not (is_some (whole_of MAX_ID v)) || (any_item (read_breaks wrong_number false) ds || false))
+  encoding : fields_break (with_reads wrong_encoding false) false 1 d asking_fields ≡ (any_item (read_breaks wrong_encoding false) ds || false)
+  needle : fields_break (with_reads empty_needle false) false 1 d asking_fields ≡ (any_item (read_breaks empty_needle false) ds || false)
+  name : fields_break (with_reads wrong_name false) false 1 d asking_fields ≡ (any_item (read_breaks wrong_name false) ds || false)
 
-read_command_shaped : (d : Data) → any_item is_unbuilt_read (reads_in d) ≡ false → command_breaks wrong_kind true d ≡ false → string_in (codes "do") d ≡ Some (codes "read") → IsShaped d
-read_command_shaped d built kinds word =
-    let fs : List Field = (codes "snapshot", kind.whole MAX_ID) ∷ (codes "reads", kind.reads) ∷ [] in
-    let row : HasRow d fs = λ test shape. rw word refl in
-    let has = row_there 3 d fs refl row kinds in
+asking_tests : (d v w : Data) (ds : Items) → get (codes "snapshot") d ≡ Some v → get (codes "reads") d ≡ Some w → as_array w ≡ Some ds → IsReadOf d v ds
+asking_tests d v w ds snapshot reads list =
+    record { number = rw (snapshot, reads, list) refl; encoding = rw (snapshot, reads, list) refl; needle = rw (snapshot, reads, list) refl; name = rw (snapshot, reads, list) refl }
+
+-- a command that has a number and reads, and no more: what its word is for, given by the three equations
+asking_shaped : (make : ℕ → List Read → Command) (d : Data) → ((k : ℕ) (rs : List Read) → has_needles (make k rs) ≡ list_all has_needle rs) → HasRow d asking_fields → command_of d ≡ option_map (made_of make) (asking_of d)
+    → reads_in d ≡ unwrap_or (option_and_then as_array (get (codes "reads") d)) no_items → any_item is_unbuilt_read (reads_in d) ≡ false → command_breaks wrong_kind true d ≡ false → IsShaped d
+asking_shaped make d each row of reads_are built kinds =
+    let has = row_there 3 d asking_fields refl row kinds in
     let v = has.1.0 in
     let w = has.1.1.0 in
     let parts = or_false (not (is_some (as_array w.value))) (any_item (read_breaks wrong_kind true) (items_in w.value)) w.kind in
     let ds = there (as_array w.value) parts.0 in
-    let is : reads_in d ≡ ds.0 = listed d w.value ds.0 word w.is ds.1 in
+    let is : reads_in d ≡ ds.0 = reads_are ∙ listed d w.value ds.0 w.is ds.1 in
     let reads = reads_shaped ds.0 (ap (any_item is_unbuilt_read) (sym is) ∙ built) (inner_reads w.value ds.0 ds.1 parts.1) in
-    let by = read_command_by d v.value w.value ds.0 _ _ has.0 word v.is w.is ds.1 refl reads.read reads.number in
-    let tests = read_tests d v.value w.value ds.0 word v.is w.is ds.1 in
+    let by = asking_by d v.value w.value ds.0 _ _ has.0 v.is w.is ds.1 refl reads.read in
+    let tests = asking_tests d v.value w.value ds.0 v.is w.is ds.1 in
     record {
       found = _;
-      read = by.0;
-      number = by.1;
-      encoding = tests.encoding ∙ or_no_more _ ∙ reads.encoding;
-      needle = read_needles (whole_of MAX_ID v.value) reads.found _ _ reads.needle (tests.needle ∙ or_no_more _);
-      name = tests.name ∙ or_no_more _ ∙ reads.name;
+      read = of ∙ ap (option_map (made_of make)) by;
+      number = row wrong_number false ∙ tests.number ∙ asking_number (whole_of MAX_ID v.value) reads.found make _ reads.number;
+      encoding = row wrong_encoding false ∙ tests.encoding ∙ or_no_more _ ∙ reads.encoding;
+      needle = asking_needles make each (whole_of MAX_ID v.value) reads.found _ _ reads.needle (row empty_needle false ∙ tests.needle ∙ or_no_more _);
+      name = row wrong_name false ∙ tests.name ∙ or_no_more _ ∙ reads.name;
       names = ap names_in is ∙ reads.names;
     }
+
+read_is : (d : Data) → string_in (codes "do") d ≡ Some (codes "read") → command_of d ≡ option_map (made_of command.Read) (asking_of d)
+unfolding command_of on_snapshots_of
+read_is d word = rw word refl
+
+read_command_shaped : (d : Data) → any_item is_unbuilt_read (reads_in d) ≡ false → command_breaks wrong_kind true d ≡ false → string_in (codes "do") d ≡ Some (codes "read") → IsShaped d
+read_command_shaped d built kinds word = asking_shaped command.Read d (λ k rs. refl) (λ test shape. rw word refl) (read_is d word) (rw word refl) built kinds
+
+send_is : (d : Data) → string_in (codes "do") d ≡ Some (codes "send") → command_of d ≡ option_map (made_of command.Send) (asking_of d)
+unfolding command_of on_snapshots_of
+send_is d word = rw word refl
+
+send_shaped : (d : Data) → any_item is_unbuilt_read (reads_in d) ≡ false → command_breaks wrong_kind true d ≡ false → string_in (codes "do") d ≡ Some (codes "send") → IsShaped d
+send_shaped d built kinds word = asking_shaped command.Send d (λ k rs. refl) (λ test shape. rw word refl) (send_is d word) (rw word refl) built kinds
 
 -- ---- each word
 
@@ -656,7 +685,7 @@ command_shaped d shape =
                       watch_shaped d k,
                       (
                         unwatch_shaped d k,
-                        (take_shaped d k, (read_command_shaped d parts.1 k, (release_shaped d k, (undo_shaped d k, (redo_shaped d k, (squash_shaped d k, tt)))))),
+                        (take_shaped d k, (read_command_shaped d parts.1 k, (send_shaped d parts.1 k, (release_shaped d k, (undo_shaped d k, (redo_shaped d k, (squash_shaped d k, tt))))))),
                       ),
                     ),
                   ),

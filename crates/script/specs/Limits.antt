@@ -40,6 +40,7 @@ has_built_word (command.Watch id) = true
 has_built_word (command.Unwatch id) = true
 has_built_word (command.Take snapshot) = true
 has_built_word (command.Read snapshot reads) = list_all has_built_read reads
+has_built_word (command.Send snapshot reads) = list_all has_built_read reads
 has_built_word (command.Release snapshot) = true
 has_built_word c = false
 
@@ -75,6 +76,7 @@ IsReadable (command.Watch id) = id ≤ MAX_ID
 IsReadable (command.Unwatch id) = id ≤ MAX_ID
 IsReadable (command.Take snapshot) = snapshot ≤ MAX_ID
 IsReadable (command.Read snapshot reads) = (snapshot ≤ MAX_ID) × AllByRecursion IsReadableRead reads
+IsReadable (command.Send snapshot reads) = (snapshot ≤ MAX_ID) × AllByRecursion IsReadableRead reads
 IsReadable (command.Release snapshot) = snapshot ≤ MAX_ID
 IsReadable c = ⊥
 
@@ -120,6 +122,7 @@ has_needle r = true
 
 abbrev pub has_needles : Command → Bool
 has_needles (command.Read snapshot reads) = list_all has_needle reads
+has_needles (command.Send snapshot reads) = list_all has_needle reads
 has_needles c = true
 
 -- ---- the whole script

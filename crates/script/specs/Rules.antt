@@ -205,7 +205,7 @@ bare_words = codes "undo" ∷ codes "redo" ∷ codes "squash" ∷ []
 abbrev pub built_words : List (List ℕ)
 built_words =
     codes "edit" ∷ codes "text" ∷ codes "unmark" ∷ codes "range" ∷ codes "exclusive" ∷ codes "compare" ∷ codes "mark" ∷ codes "marks" ∷ codes "watch" ∷ codes "unwatch"
-    ∷ codes "take" ∷ codes "read" ∷ codes "release" ∷ bare_words
+    ∷ codes "take" ∷ codes "read" ∷ codes "send" ∷ codes "release" ∷ bare_words
 
 -- the words of the reads that are built
 abbrev pub built_reads : List (List ℕ)
@@ -217,7 +217,7 @@ is_on_marks d = is_one_of (codes "unmark" ∷ codes "range" ∷ codes "exclusive
 
 -- a command on snapshots
 abbrev pub is_on_snapshots : Data → Bool
-is_on_snapshots d = is_one_of (codes "take" ∷ codes "read" ∷ codes "release" ∷ []) (string_in (codes "do") d)
+is_on_snapshots d = is_one_of (codes "take" ∷ codes "read" ∷ codes "send" ∷ codes "release" ∷ []) (string_in (codes "do") d)
 
 -- a command whose word has no member beside it
 abbrev pub is_bare : Data → Bool

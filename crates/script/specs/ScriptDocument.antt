@@ -124,14 +124,16 @@ release_of d = if member_count d == 2 then option_map command.Release (whole_in 
 abbrev pub listed_reads : Data → Option (List Read)
 listed_reads d = option_and_then reads_of (option_and_then as_array (get (codes "reads") d))
 
-unfoldable pub read_command_of : Data → Option Command
-read_command_of d = if member_count d == 3 then option_and_then (λ k. option_map (command.Read k) (listed_reads d)) (whole_in MAX_ID (codes "snapshot") d) else None
+-- a number and reads, for a `read` or a `send`
+unfoldable pub asking_of : Data → Option (ℕ × List Read)
+asking_of d = if member_count d == 3 then option_and_then (λ k. option_map (λ rs. (k, rs)) (listed_reads d)) (whole_in MAX_ID (codes "snapshot") d) else None
 
 unfoldable pub on_snapshots_of : Data → Option Command
 on_snapshots_of d =
     if is_word (string_in (codes "do") d) (codes "take") then take_of d
-    else (if is_word (string_in (codes "do") d) (codes "read") then read_command_of d
-    else (if is_word (string_in (codes "do") d) (codes "release") then release_of d else None))
+    else (if is_word (string_in (codes "do") d) (codes "read") then option_map (λ a. command.Read a.0 a.1) (asking_of d)
+    else (if is_word (string_in (codes "do") d) (codes "send") then option_map (λ a. command.Send a.0 a.1) (asking_of d)
+    else (if is_word (string_in (codes "do") d) (codes "release") then release_of d else None)))
 
 -- on the text and its steps
 unfoldable pub on_text_of : Data → Option Command

@@ -1,14 +1,14 @@
 //! The commands, each read from the members that its word asks for.
 ghost use Rattle.std.specs.Prelude.{◌≡◌};
 ghost use Rattle.serde_json.specs.View.{view};
-ghost use Rattle.script.specs.ScriptDocument.{edit_of, look_of, ranged_of, bare_of, unmark_of, mark_range_of, exclusive_of, compare_of, mark_of, how_of, marks_of, watch_of, unwatch_of, on_marks_of, take_of, read_command_of, release_of, on_snapshots_of, on_text_of, command_of};
+ghost use Rattle.script.specs.ScriptDocument.{edit_of, look_of, ranged_of, bare_of, unmark_of, mark_range_of, exclusive_of, compare_of, mark_of, how_of, marks_of, watch_of, unwatch_of, on_marks_of, take_of, asking_of, release_of, on_snapshots_of, on_text_of, command_of};
 ghost use Rattle.script.specs.Rules.{is_on_marks, is_on_snapshots};
 ghost use Rattle.script.specs.Reading.{Gives};
 
 use crate::limits::{MAX_ID, MAX_SHOWN};
 use crate::parts::{Misfit, flag_in, is_do, member_count, range_in, string_in, whole_in};
 use crate::reads::reads_in;
-use machine::{Command, How, Text};
+use machine::{Command, How, Read, Sequence, Text};
 use serde_json::Value;
 use std::alloc::Global;
 
@@ -221,7 +221,7 @@ fn is_on_marks(value: &Value) -> bool
 fn is_on_snapshots(value: &Value) -> bool
     ensures { result ≡ is_on_snapshots (view value.now) }
 {
-    is_do(value, "take") || is_do(value, "read") || is_do(value, "release")
+    is_do(value, "take") || is_do(value, "read") || is_do(value, "send") || is_do(value, "release")
 }
 
 // A command on marks and watchers.
@@ -281,17 +281,17 @@ fn release_of(value: &Value) -> Result<Command, Misfit>
     Ok(Command::Release { snapshot })
 }
 
-// Reads of a snapshot.
-#[tactic(auto, unfolding(crate::specs::ScriptDocument::read_command_of))]
-fn read_command_of(alloc: Global, value: &Value) -> Result<Command, Misfit>
-    ensures { Gives (λ c. c) result (read_command_of (view value.now)) }
+// The number of a snapshot, and reads of it.
+#[tactic(auto, unfolding(crate::specs::ScriptDocument::asking_of))]
+fn asking_of(alloc: Global, value: &Value) -> Result<(u32, Sequence<Read>), Misfit>
+    ensures { Gives (λ a. (a.0, a.1)) result (asking_of (view value.now)) }
 {
     if member_count(value) != 3 {
         return Err(Misfit::Shape);
     }
     let snapshot = whole_in(MAX_ID, value, "snapshot")?;
     let reads = reads_in(alloc, value)?;
-    Ok(Command::Read { snapshot, reads })
+    Ok((snapshot, reads))
 }
 
 // A command on snapshots.
@@ -304,7 +304,12 @@ fn on_snapshots_of(alloc: Global, value: &Value) -> Result<Command, Misfit>
         return take_of(value);
     }
     if word == "read" {
-        return read_command_of(alloc, value);
+        let (snapshot, reads) = asking_of(alloc, value)?;
+        return Ok(Command::Read { snapshot, reads });
+    }
+    if word == "send" {
+        let (snapshot, reads) = asking_of(alloc, value)?;
+        return Ok(Command::Send { snapshot, reads });
     }
     if word == "release" {
         return release_of(value);

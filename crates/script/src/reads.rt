@@ -131,7 +131,7 @@ pub(crate) fn has_needles(command: &Command) -> bool
     ensures { result ≡ has_needles command.now }
 {
     match command {
-        Command::Read { reads, .. } => have_needles(reads.as_slice()),
+        Command::Read { reads, .. } | Command::Send { reads, .. } => have_needles(reads.as_slice()),
         _ => true,
     }
 }

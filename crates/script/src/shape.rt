@@ -219,6 +219,9 @@ fn is_misshapen_do(word: &str, value: &Value) -> bool
     if word == "read" {
         return lacks_members_of_read(value);
     }
+    if word == "send" {
+        return lacks_members_of_read(value);
+    }
     true
 }
 
