@@ -28,12 +28,20 @@ given_rule name = record (new_rule name) { required = true; action = Some Set }
 abbrev pub make_app : App
 make_app = with_rule (with_rule (with_rule (new_app (codes "make")) (given_rule (codes "FIRST"))) (given_rule (codes "EDITS"))) (given_rule (codes "SESSIONS"))
 
+-- check SCRIPT TRANSCRIPT: two texts, both required
+abbrev pub check_app : App
+check_app = with_rule (with_rule (new_app (codes "check")) (given_rule (codes "SCRIPT"))) (given_rule (codes "TRANSCRIPT"))
+
+-- bulk FIRST EDITS WORKERS: three texts, all required
+abbrev pub bulk_app : App
+bulk_app = with_rule (with_rule (with_rule (new_app (codes "bulk")) (given_rule (codes "FIRST"))) (given_rule (codes "EDITS"))) (given_rule (codes "WORKERS"))
+
 -- one of these subcommands, with no help and no version to ask for
 abbrev pub top_app : App
 top_app = on_top (λ s. record s { no_binary_name = true; disable_help_flag = true; disable_help_subcommand = true; subcommand_required = true }) (new_app (codes "buffer_cli"))
 
 abbrev pub words_app : App
-words_app = with_subcommand (with_subcommand top_app run_app.top) make_app.top
+words_app = with_subcommand (with_subcommand (with_subcommand (with_subcommand top_app run_app.top) make_app.top) check_app.top) bulk_app.top
 
 -- ---- the numbers among the words
 
@@ -61,12 +69,22 @@ make_line rows =
     option_and_then (λ first. option_and_then (λ edits. option_map (line.Make first edits) (number_at 1 8 (codes "SESSIONS") rows))
     (number_at 1 4096 (codes "EDITS") rows)) (number_at 0 65535 (codes "FIRST") rows)
 
+abbrev pub check_line : List Row → Option CommandLine
+check_line rows = option_and_then (λ script. option_map (line.Check script) (first_of (codes "TRANSCRIPT") rows)) (first_of (codes "SCRIPT") rows)
+
+abbrev pub bulk_line : List Row → Option CommandLine
+bulk_line rows =
+    option_and_then (λ first. option_and_then (λ edits. option_map (line.Bulk first edits) (number_at 0 16 (codes "WORKERS") rows))
+    (number_at 1 4096 (codes "EDITS") rows)) (number_at 0 65535 (codes "FIRST") rows)
+
 -- by the subcommand and its arguments
 abbrev pub line_of : Option (Text × List Row) → Option CommandLine
 line_of None = None
 line_of (Some met) =
     if bytes_eq met.0 (codes "run") then run_line met.1
-    else (if bytes_eq met.0 (codes "make") then make_line met.1 else None)
+    else (if bytes_eq met.0 (codes "make") then make_line met.1
+    else (if bytes_eq met.0 (codes "check") then check_line met.1
+    else (if bytes_eq met.0 (codes "bulk") then bulk_line met.1 else None)))
 
 -- no step of the parse fails
 abbrev pub is_taken : Kinds → Bool
@@ -80,4 +98,6 @@ command_line words = if is_taken (fault_of words_app words) then line_of (subcom
 -- its numbers are in range
 abbrev pub IsInRange : CommandLine → Type 0
 IsInRange (line.Run workers) = workers ≤ 16
+IsInRange (line.Check script transcript) = Unit {0}
+IsInRange (line.Bulk first edits workers) = (first ≤ 65535) × (1 ≤ edits) × (edits ≤ 4096) × (workers ≤ 16)
 IsInRange (line.Make first edits sessions) = (first ≤ 65535) × (1 ≤ edits) × (edits ≤ 4096) × (1 ≤ sessions) × (sessions ≤ 8)

@@ -2,7 +2,7 @@
 ghost use Rattle.std.specs.Prelude.{◌≡◌, false, IfOk};
 ghost use Rattle.clap.specs.Words.{app_of, rule_of};
 ghost use Rattle.clap.specs.declared.builder.command.Command.TheViews.{out-Command};
-ghost use Rattle.command_words.specs.CommandLine.{top_app, words_app, run_app, make_app, given_rule};
+ghost use Rattle.command_words.specs.CommandLine.{top_app, words_app, run_app, bulk_app, check_app, make_app, given_rule};
 
 use clap::{Arg, ArgAction, Command};
 use std::alloc::{AllocError, Global};
@@ -14,7 +14,13 @@ pub(crate) fn command<'a>(alloc: Global) -> Result<Command<'a>, AllocError>
 {
     let run = run_command(alloc)?;
     let make = make_command(alloc)?;
-    top_command(alloc).subcommand(run)?.subcommand(make)
+    let check = check_command(alloc)?;
+    let bulk = bulk_command(alloc)?;
+    top_command(alloc)
+        .subcommand(run)?
+        .subcommand(make)?
+        .subcommand(check)?
+        .subcommand(bulk)
 }
 
 // The command without its subcommands.
@@ -49,6 +55,27 @@ fn make_command<'a>(alloc: Global) -> Result<Command<'a>, AllocError>
         .arg(given(alloc, "FIRST"))?
         .arg(given(alloc, "EDITS"))?
         .arg(given(alloc, "SESSIONS"))
+}
+
+// check SCRIPT TRANSCRIPT
+fn check_command<'a>(alloc: Global) -> Result<Command<'a>, AllocError>
+    ensures app { IfOk result (λ command. app_of command ≡ check_app) }
+    ensures local { IfOk result (λ command. (out-Command command).has_globals ≡ false) }
+{
+    Command::new(alloc, "check")
+        .arg(given(alloc, "SCRIPT"))?
+        .arg(given(alloc, "TRANSCRIPT"))
+}
+
+// bulk FIRST EDITS WORKERS
+fn bulk_command<'a>(alloc: Global) -> Result<Command<'a>, AllocError>
+    ensures app { IfOk result (λ command. app_of command ≡ bulk_app) }
+    ensures local { IfOk result (λ command. (out-Command command).has_globals ≡ false) }
+{
+    Command::new(alloc, "bulk")
+        .arg(given(alloc, "FIRST"))?
+        .arg(given(alloc, "EDITS"))?
+        .arg(given(alloc, "WORKERS"))
 }
 
 // A word that has to be there.

@@ -6,8 +6,10 @@
 
 mod command;
 mod line;
+mod name;
 mod number;
 mod read;
 
 pub use line::{CommandLine, WordsRefusal};
+pub use name::Name;
 pub use read::read_words;

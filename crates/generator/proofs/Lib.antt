@@ -1,3 +1,4 @@
 pub mod Ranges
 pub mod Draws
 pub mod Characters
+pub mod Within

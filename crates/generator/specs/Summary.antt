@@ -1,6 +1,6 @@
 -- The five numbers that sum a transcript up.
-use Rattle.std.specs.Prelude.{ℕ, ◌+◌, ◌-◌, ◌^◌, min, length, count_by, sum_by}
-use Rattle.points.specs.Text.{utf16_of, is_lf}
+use Rattle.std.specs.Prelude.{ℕ, ◌+◌, ◌-◌, ◌^◌, List, [], ◌∷◌, ◌++◌, min, length, count_by, sum_by, codes, decimal}
+use Rattle.points.specs.Text.{LF, utf16_of, is_lf}
 use Rattle.machine.specs.declared.reads.ReadAnswer.{ReadAnswer}
 use Rattle.machine.specs.declared.reads.ReadAnswer.TheVariants as answer
 use Rattle.machine.specs.declared.reply.Reply.{Reply}
@@ -32,3 +32,11 @@ summary_of t = record {
   snapshots = capped (sum_by (count_by is_taken) t.sessions);
   hits = capped (sum_by (sum_by hits_told) t.sessions);
 }
+
+-- a number behind its word, and what comes behind its line
+abbrev pub line : List ℕ → ℕ → List ℕ → List ℕ
+line word n rest = word ++ (decimal n ++ LF ∷ rest)
+
+-- the five numbers, a line each
+abbrev pub summary_text : Summary → List ℕ
+summary_text s = line (codes "calls ") s.calls (line (codes "units ") s.units (line (codes "rows ") s.rows (line (codes "snapshots ") s.snapshots (line (codes "hits ") s.hits []))))

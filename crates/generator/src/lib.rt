@@ -6,6 +6,7 @@
 
 mod block;
 mod drawing;
+pub mod laws;
 mod make;
 mod measure;
 mod numbers;
