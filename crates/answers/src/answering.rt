@@ -71,8 +71,9 @@ fn answer<M: Matcher, K: Sink + Drop>(alloc: Global, reader: &Reader, read: Read
     }
 }
 
-// The number of units of the clipped range, and the first of them.
-fn read_text(
+/// The number of UTF-16 units of the clipped range, and the first of them: at most `limit`, and one fewer where that would
+/// part a surrogate pair.
+pub fn read_text(
     alloc: Global,
     reader: &Reader,
     range: Range,

@@ -16,7 +16,7 @@ pub struct Share<T> {
 /// The account of one thread. It has no bytes, and can go to another thread.
 pub type Account<T> = Pass<T, Share<T>>;
 
-// The rule.
+/// The rule of the queue: what all accounts put is, in some order, what they took and what is left in it.
 pub struct Balance;
 
 impl<T> Protocol<T, Share<T>> for Balance {
@@ -28,7 +28,7 @@ impl<T> Protocol<T, Share<T>> for Balance {
     ghost first = { share ALL_PARTS [] [] };
 }
 
-// An account gives one of its parts to a new one.
+/// The step that opens an account: an account gives one of its parts to a new one, which shows nothing yet.
 pub struct Opening;
 
 impl<T> Split<Share<T>> for Opening {
@@ -40,7 +40,7 @@ impl<T> Split<Share<T>> for Opening {
     ghost right = { λ v. share 1 [] [] };
 }
 
-// An account takes over what another shows.
+/// The step that closes an account: another takes over its parts and what it shows.
 pub struct Settling;
 
 impl<T> Join<Share<T>> for Settling {
@@ -52,7 +52,7 @@ impl<T> Join<Share<T>> for Settling {
     ghost spent = { share 0 [] [] };
 }
 
-// An item joins at the back.
+/// The step that puts an item at the back of the queue: the account shows it as put.
 pub struct Puts;
 
 impl<T> Outcome<T, Share<T>> for Puts {
@@ -68,7 +68,7 @@ impl<T> Lesson<T, Share<T>> for Puts {
     ghost fact = { Learned };
 }
 
-// An item leaves at the front.
+/// The step that takes the item at the front of the queue: the account shows it as taken.
 pub struct Takes;
 
 impl<T> Outcome<T, Share<T>> for Takes {

@@ -1,27 +1,13 @@
 -- Reads of a text.
-use Rattle.std.proofs.Common.{◌≡◌, ℕ, ◌-◌, ◌≤◌, Bool, true, List, [], ◌∷◌, length, map, drop, ◌&&◌, Option, refl, arith}
+use Rattle.std.proofs.Common.{◌≡◌, ℕ, Bool, true, List, [], ◌∷◌, map, ◌&&◌, Option, refl}
 use Rattle.std.specs.List.{AllByRecursion, list_all}
-use Rattle.std.proofs.lemmas.List.{length-take, length-drop}
 use Rattle.std.proofs.lemmas.Bool.{false≢true, and_parts}
-use Rattle.points.specs.declared.point.Point.{Point}
-use Rattle.points.specs.Point.{point_le}
-use Rattle.points.specs.Place.{clipped_offset}
-use Rattle.points.proofs.ClipLemmas.{clipped_offset_mono, clipped_at}
 use Rattle.machine.specs.declared.reads.Read.{Read}
 use Rattle.machine.specs.declared.reads.Read.TheVariants as read
-use Rattle.machine.specs.Machine.{between}
 use Rattle.machine.specs.Answers.{Matches}
 use Rattle.machine.specs.Lawful.{answer_has_form, answers_have_forms, asked_in, next_told, told_after, IsAsked}
 use Rattle.sessions.specs.Rules.{is_own_read}
 use Rattle.sessions.specs.Reading.{answer_in}
-
--- the units of a clipped range are as many as its ends are apart
-pub span_long : (t : List ℕ) (p q : Point) → point_le p q ≡ true → length (between t (clipped_offset t p) (clipped_offset t q)) ≡ clipped_offset t q - clipped_offset t p
-span_long t p q order =
-    let i : ℕ = clipped_offset t p in
-    let j : ℕ = clipped_offset t q in
-    let within : j ≤ length t = (clipped_at t q).within in
-    omega (arith, length-take (j - i) (drop i t), length-drop i t, clipped_offset_mono t p q order, within)
 
 -- such an answer has the form of its read, and is lawful
 own_form : (t : List ℕ) (r : Read) → is_own_read r ≡ true → answer_has_form r (answer_in t r) ≡ true

@@ -1,4 +1,4 @@
-//! Sessions that share a buffer, each in a thread of its own.
+//! Sessions that share a buffer: the law of their transcript, and one session's run from its desk.
 #![tactic(auto)]
 
 mod holding;

@@ -1,15 +1,15 @@
 //! One session: its commands, answered in turn from its desk.
-ghost use Rattle.std.specs.Prelude.{◌≡◌, ◌==◌, [], map, true, false, vec_len, IfOk};
+ghost use Rattle.std.specs.Prelude.{◌≡◌, ◌==◌, [], map, true, false, vec_len, IfOk, IfErr};
 ghost use Rattle.std.specs.List.{list_all, list_any};
 ghost use Rattle.machine.specs.Plain.{kept_text};
 ghost use Rattle.machine.specs.declared.reply.Reply.TheVariants as answered;
-ghost use Rattle.turn_table.specs.Calls.{Turned};
+ghost use Rattle.turn_table.specs.Calls.{Has, Turned};
 ghost use Rattle.shared_buffer.specs.Entries.{is_plain};
 ghost use Rattle.shared_buffer.specs.Tokens.{IsDeskOf};
 ghost use Rattle.sessions.specs.Rules.{is_own_read, can_answer, can_answer_all};
 ghost use Rattle.sessions.specs.Reading.{answer_in};
 ghost use Rattle.sessions.specs.Holding.{hands_of, number_of};
-ghost use Rattle.sessions.specs.Running.{IsAnswered, IsRun};
+ghost use Rattle.sessions.specs.Running.{IsAnswered, IsOut, IsRun};
 
 use crate::holding::{Holding, SpareHand};
 use crate::reads::answer_reads;
@@ -32,6 +32,7 @@ pub fn run_session<B: PlainBuffer + Send, R: Wait>(
     requires desk { IsDeskOf buffer.now desk.old }
     requires can { can_answer_all (vec_len hands) [] commands.items ≡ true }
     ensures desk { IsDeskOf buffer.now desk.new }
+    ensures spent { IfErr result (λ no. no ≡ RunRefusal.Spent → Has (IsOut buffer.now) desk.new.views) }
     ensures replies { IfOk result (λ rs. Turned (IsRun buffer.now commands.items rs.items) desk.old.views desk.new.views) }
 {
     let mut holding = Holding::new(alloc, hands);
@@ -55,6 +56,7 @@ fn answer<B: PlainBuffer + Send, R: Wait>(
     requires can { can_answer (hands_of holding.old) (map number_of holding.old.kept) command ≡ true }
     ensures desk { IsDeskOf buffer.now desk.new }
     ensures hands { IfOk result (λ _. hands_of holding.new ≡ hands_of holding.old) }
+    ensures spent { IfErr result (λ no. no ≡ RunRefusal.Spent → Has (IsOut buffer.now) desk.new.views) }
     ensures reply { IfOk result (λ r. Turned (IsAnswered buffer.now command r holding.old.kept holding.new.kept) desk.old.views desk.new.views) }
 {
     if is_call(&command) {
@@ -88,6 +90,7 @@ fn answer_other<B: PlainBuffer + Send, R: Wait>(
     requires other { is_plain command ≡ false }
     requires can { can_answer (hands_of holding.old) (map number_of holding.old.kept) command ≡ true }
     ensures desk { IsDeskOf buffer.now desk.new }
+    ensures other { IfErr result (λ no. no ≡ RunRefusal.NoMemory) }
     ensures hands { IfOk result (λ _. hands_of holding.new ≡ hands_of holding.old) }
     ensures reply { IfOk result (λ r. Turned (IsAnswered buffer.now command r holding.old.kept holding.new.kept) desk.old.views desk.new.views) }
 {
