@@ -8,3 +8,4 @@ pub mod PatternLemmas
 pub mod PutLemmas
 pub mod LoadLemmas
 pub mod Expected
+pub mod CheckLemmas

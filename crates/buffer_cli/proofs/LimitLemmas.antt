@@ -27,7 +27,7 @@ answered_reads (r ∷ rs) built needles =
 
 answered_word : (c : Command) → has_built_word c ≡ true → has_needles c ≡ true → is_answered c ≡ true
 answered_word (command.Batch edits) built needles = absurd (false≢true built)
-answered_word (command.Send k reads) built needles = absurd (false≢true built)
+answered_word (command.Send k reads) built needles = answered_reads reads built needles
 answered_word (command.Read k reads) built needles = answered_reads reads built needles
 answered_word _ built needles = refl
 

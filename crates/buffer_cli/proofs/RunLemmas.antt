@@ -130,7 +130,7 @@ ended_kept k live held kept all n is =
 after_kept : (s : State) (c : Command) (live : List ℕ) (held kept : List Kept) → is_answered c ≡ true → AreKept live held kept → AreKept (live_after c live) (held_after s c held) (kept_after s c kept)
 after_kept s (command.Take k) live held kept is all = λ n h. taken_kept n k s.text live held kept (k == n) refl h all
 after_kept s (command.Release k) live held kept is all = ended_kept k live held kept all
-after_kept s (command.Send k reads) live held kept is all = absurd (false≢true is)
+after_kept s (command.Send k reads) live held kept is all = ended_kept k live held kept all
 after_kept s _ live held kept is all = all
 
 -- a command on live snapshots is answered from them as from the texts that were taken, whatever is found later
@@ -138,11 +138,13 @@ same_reply : (s : State) (c : Command) (live : List ℕ) (held kept : List Kept)
     → plain_reply 1 s held found c ≡ plain_reply 1 s kept (found ++ later) c
 same_reply s (command.Read k reads) live held kept found later is at all many =
     ap (λ t. reply.Answered (plain_answers t found reads)) (all k at).same ∙ ap reply.Answered (sym (answers_first (kept_text k kept) found later reads many))
-same_reply s (command.Send k reads) live held kept found later is at all many = absurd (false≢true is)
+same_reply s (command.Send k reads) live held kept found later is at all many =
+    ap (λ t. reply.Answered (plain_answers t found reads)) (all k at).same ∙ ap reply.Answered (sym (answers_first (kept_text k kept) found later reads many))
 same_reply s _ live held kept found later is at all many = refl
 
 held_by : (c : Command) (live : List ℕ) (held kept : List Kept) → is_live live c ≡ true → AreKept live held kept → is_held held c ≡ true
 held_by (command.Read k reads) live held kept at all = (all k at).there
+held_by (command.Send k reads) live held kept at all = (all k at).there
 held_by _ live held kept at all = refl
 
 pub both : (a b : Bool) → (a && b) ≡ true → (a ≡ true) × (b ≡ true)
@@ -164,6 +166,7 @@ whole_ended n (k ∷ ks) all = whole_without n k ks (has_number n k) all (whole_
 whole_after : (s : State) (c : Command) (held : List Kept) → IsWellFormed s.text → AreWhole held → AreWhole (held_after s c held)
 whole_after s (command.Take k) held text all = (text, all)
 whole_after s (command.Release k) held text all = whole_ended k held all
+whole_after s (command.Send k reads) held text all = whole_ended k held all
 whole_after s _ held text all = all
 
 whole_by : (n : ℕ) (k : Kept) (ks : List Kept) (b : Bool) (t : List ℕ) → AreWhole (k ∷ ks) → (Some t ≡ option_map (λ (x : Kept). x.text) (find (has_number n) ks) → IsWellFormed t) → Some t ≡ option_map (λ (x : Kept). x.text) (cond b (Some k) (find (has_number n) ks)) → IsWellFormed t

@@ -20,6 +20,7 @@ answered s held found c = (after_call s (call_of c), plain_reply 1 s held found 
 abbrev pub held_after : State → Command → List Kept → List Kept
 held_after s (command.Take k) held = record { number = k; text = s.text } ∷ held
 held_after s (command.Release k) held = without_first k held
+held_after s (command.Send k reads) held = without_first k held
 held_after s _ held = held
 
 -- the reads that a session answers: all but saves, and no search for nothing
@@ -27,21 +28,28 @@ abbrev pub is_answered_read : Read → Bool
 is_answered_read (read.Save name encoding) = false
 is_answered_read r = has_needle r
 
--- the commands that a session answers by itself: all but a batch, a task for the workers and saves
+-- the commands that a session answers: all but a batch and saves
 abbrev pub is_answered : Command → Bool
 is_answered (command.Batch edits) = false
-is_answered (command.Send k reads) = false
 is_answered (command.Read k reads) = list_all is_answered_read reads
+is_answered (command.Send k reads) = list_all is_answered_read reads
 is_answered _ = true
 
 -- the command reads a snapshot
 abbrev pub is_read : Command → Bool
 is_read (command.Read k reads) = true
+is_read (command.Send k reads) = true
 is_read _ = false
+
+-- the command ends the snapshot that it reads
+abbrev pub is_send : Command → Bool
+is_send (command.Send k reads) = true
+is_send _ = false
 
 -- a read is of a live snapshot
 abbrev pub is_held : List Kept → Command → Bool
 is_held held (command.Read k reads) = is_some (find (has_number k) held)
+is_held held (command.Send k reads) = is_some (find (has_number k) held)
 is_held held _ = true
 
 -- how many watchers these commands attach

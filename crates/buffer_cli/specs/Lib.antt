@@ -9,3 +9,5 @@ pub mod Load
 pub mod Run
 pub mod Exit
 pub mod Words
+pub mod Check
+pub mod Bulk

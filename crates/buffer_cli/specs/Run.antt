@@ -104,6 +104,7 @@ pub record IsTextTooLong (bytes : List ℕ) (files : Option Files) : Type 0 wher
 -- What a status says of what the run did outside.
 abbrev pub Explains : Status → Outside → Type 0
 Explains status.Done o = IsWhole o × ((text : List ℕ) × IsAnswer o.tells o.files o.bytes text × Appends text o.before o.after) × IsUnsaved o
+Explains (status.Unlawful place) o = ⊥
 Explains status.Usage o = (o.bytes ≡ []) × IsUntouched o
 Explains (status.ScriptRefused session command why) o = IsWhole o × (script_place o.bytes ≡ Some (session, command, why)) × IsUntouched o
 Explains status.ReadFault o = (length o.bytes ≤ max_input) × IsUntouched o

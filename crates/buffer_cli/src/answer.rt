@@ -153,7 +153,7 @@ fn answer_over<P: PatternMaker>(
 
 /// A lawful transcript of a script that opens with this text: what its one session is answered, call by call. There is one matcher
 /// for each pattern.
-fn perform<M: Matcher>(
+pub(crate) fn perform<M: Matcher>(
     alloc: Global,
     script: &Script,
     text: &str,
@@ -185,8 +185,8 @@ fn perform<M: Matcher>(
     })
 }
 
-// The commands of the one session.
-fn commands_of(script: &Script) -> &[Command]
+/// The commands of the one session.
+pub(crate) fn commands_of(script: &Script) -> &[Command]
     requires { IsWithinLimits script.now }
     ensures { script.now.sessions ≡ result.now ∷ [] }
 {

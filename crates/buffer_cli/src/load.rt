@@ -69,8 +69,12 @@ pub(crate) fn load<F: Folder>(
     Ok(text)
 }
 
-// All bytes of the file with this name. Its source is closed whatever came of it.
-fn fetch<F: Folder>(alloc: Global, folder: &mut F, name: &str) -> Result<Vec<u8>, InputFault>
+/// All bytes of the file with this name. Its source is closed whatever came of it.
+pub(crate) fn fetch<F: Folder>(
+    alloc: Global,
+    folder: &mut F,
+    name: &str,
+) -> Result<Vec<u8>, InputFault>
     ensures fetched { IsFetched name.now (F.files folder.old) (F.files folder.new) result }
     ensures load_count { F.loads folder.old ≤ F.loads folder.new }
     ensures save_count { F.saves folder.new ≡ F.saves folder.old }

@@ -1,7 +1,7 @@
 //! The program: it runs a script from standard input, over files of the current folder, and writes its transcript to standard output;
-//! or it writes a made script.
+//! or it writes a made script; or it checks a transcript.
 //!
-//! `words` tells the calls by their words, and `make` is the one that makes scripts.
+//! `words` tells the calls by their words, `make` is the one that makes scripts, `bulk` runs one and sums it up, and `check` checks a transcript.
 //! A run goes through these modules: `input` reads the script's bytes, `answer` turns them into those
 //! of the transcript, `load` reads the file that the script opens, `matchers` makes the matchers of its patterns, `session` answers each command by calls of the buffer,
 //! `reads` answers the reads of a snapshot, and `output` writes the bytes.
@@ -10,6 +10,12 @@
 
 mod adapters;
 mod answer;
+mod bulk;
+#[cfg(test)]
+mod bulk_tests;
+mod check;
+#[cfg(test)]
+mod check_tests;
 #[cfg(test)]
 mod file_tests;
 mod folder;
@@ -29,6 +35,8 @@ mod unheard;
 mod words;
 
 use adapters::{Reading, Writing};
+pub use bulk::run_bulk;
+pub use check::run_check;
 use folder::CurrentFolder;
 pub use make::run_make;
 use points::MAX_WATCHERS;
@@ -63,6 +71,17 @@ fn run_program(rt: &HostRuntime) -> Status {
     if words.first().is_some_and(|word| word.as_str() == "make") {
         return run_make(alloc, words.as_slice(), &mut output);
     }
+    let mut folder = CurrentFolder::new(rt);
+    let mut patterns = RegexMaker::new();
+    if words.first().is_some_and(|word| word.as_str() == "check") {
+        return run_check(
+            alloc,
+            words.as_slice(),
+            &mut folder,
+            &mut patterns,
+            &mut output,
+        );
+    }
     // Watchers that keep nothing of what they hear.
     let mut watchers: Vec<Box<dyn Watcher>> = Vec::new(alloc);
     for _ in 0..MAX_WATCHERS {
@@ -79,9 +98,10 @@ fn run_program(rt: &HostRuntime) -> Status {
     if watchers.len() != MAX_WATCHERS || !are_unheard(watchers.as_slice()) {
         return Status::NoMemory;
     }
+    if words.first().is_some_and(|word| word.as_str() == "bulk") {
+        return run_bulk(alloc, words.as_slice(), &mut output, watchers);
+    }
     let mut input = Reading::new(rt.reader());
-    let mut folder = CurrentFolder::new(rt);
-    let mut patterns = RegexMaker::new();
     run_script(
         alloc,
         words.as_slice(),

@@ -8,7 +8,7 @@ ghost use Rattle.machine.specs.Plain.{calls_of, kept_text, are_live};
 ghost use Rattle.buffer.specs.Seen.{Hears, state_of};
 ghost use Rattle.buffer.specs.Sound.{IsSound};
 ghost use Rattle.buffer.specs.Reads.{has_number};
-ghost use Rattle.buffer_cli.specs.Answered.{answered, held_after, is_answered, is_answered_read, is_held, is_read, watches_in};
+ghost use Rattle.buffer_cli.specs.Answered.{answered, held_after, is_answered, is_answered_read, is_held, is_read, is_send, watches_in};
 ghost use Rattle.buffer_cli.specs.Hits.{AreAnswers, AreReplies, IsReply};
 
 use crate::reads::answer_reads;
@@ -81,14 +81,27 @@ fn answer_one<M: Matcher>(
     ensures stands { Hears (λ s. ⟦<Seat as Listens>⟧.kept s) session.new.buffer }
 {
     match command {
-        Command::Read { snapshot, reads } => {
+        Command::Read { snapshot, reads } | Command::Send { snapshot, reads } => {
             let reads = reads.as_slice();
             let answers = read(alloc, &session.snapshots, matchers, *snapshot, reads)?;
+            if is_send(command) {
+                session.snapshots.release(&mut session.buffer, *snapshot);
+            }
             Ok(Reply::Answered {
                 answers: Sequence::new(answers),
             })
         }
         _ => answer_other(alloc, session, command),
+    }
+}
+
+// Whether a command ends the snapshot that it reads.
+fn is_send(command: &Command) -> bool
+    ensures { result ≡ is_send command.now }
+{
+    match command {
+        Command::Send { .. } => true,
+        _ => false,
     }
 }
 

@@ -1,8 +1,8 @@
 //! How a run ends: its status, the exit status of the program, and the line on standard error.
-ghost use Rattle.std.specs.Prelude.{◌≡◌, ◌↔◌, Some, None, IfSome};
-ghost use Rattle.buffer_cli.specs.Exit.{exit_code, fault_text};
-ghost use Rattle.buffer_cli.specs.declared.status.Status.TheVariants.{Done};
+ghost use Rattle.std.specs.Prelude.{◌≡◌, ◌↔◌, Some, None, false, IfSome};
+ghost use Rattle.buffer_cli.specs.Exit.{exit_code, fault_text, has_line};
 
+use machine::Place;
 use script::ScriptRule;
 use std::fmt;
 
@@ -11,6 +11,10 @@ use std::fmt;
 pub enum Status {
     /// The whole result was written.
     Done,
+    /// The transcript that was checked isn't lawful, and this is the first place where it fails. That was written.
+    Unlawful {
+        place: Place,
+    },
     /// The words aren't a command line.
     Usage,
     /// The script breaks a rule, first at this place. Sessions and commands are counted from 1;
@@ -29,11 +33,11 @@ pub enum Status {
         session: u32,
         command: u32,
     },
-    /// The input, or the file that the script opens, has more than 2^26 bytes.
+    /// The input, or a file that was read, has more than 2^26 bytes.
     InputTooLong,
     /// There was no memory for it.
     NoMemory,
-    /// The file that the script opens couldn't be read.
+    /// A file couldn't be read: the one that the script opens, or one that is checked.
     LoadFault,
     /// The text of the file that the script opens has more than 2^24 units.
     TextTooLong,
@@ -46,6 +50,7 @@ impl Status {
     {
         match self {
             Status::Done => 0,
+            Status::Unlawful { .. } => 1,
             Status::Usage => 2,
             Status::ScriptRefused { .. } => 3,
             Status::ReadFault => 4,
@@ -60,11 +65,11 @@ impl Status {
 
     /// What the program prints on standard error, if anything.
     pub fn fault_line(self) -> Option<Fault>
-        ensures none { (result ≡ None) ↔ (self ≡ Done) }
+        ensures none { (result ≡ None) ↔ (has_line self ≡ false) }
         ensures some { IfSome result (λ fault. fault.status ≡ self) }
     {
         match self {
-            Status::Done => None,
+            Status::Done | Status::Unlawful { .. } => None,
             status => Some(Fault { status }),
         }
     }
@@ -81,7 +86,7 @@ impl fmt::Display for Fault {
 
     fn fmt<W: fmt::Write>(&self, f: &mut fmt::Formatter<W>) -> fmt::Result {
         match self.status {
-            Status::Done => Ok(()),
+            Status::Done | Status::Unlawful { .. } => Ok(()),
             Status::Usage => f.write_str(
                 "usage: run [--workers N] | bulk FIRST EDITS WORKERS | check SCRIPT TRANSCRIPT \
                  | make FIRST EDITS SESSIONS",
