@@ -153,24 +153,34 @@ fn joined_keeps_text(shelf: &mut Shelf, squashes: bool) -> bool {
     }
 }
 
+// Whether the 65th change begins a layer, and a squash makes one of two.
+fn grows_and_squashes(shelf: &mut Shelf) -> bool {
+    sprinkle(shelf, 3, 64)
+        && has_shape(shelf, &[(0, 0), (64, 64)])
+        && has_no_squash(shelf)
+        && sprinkle(shelf, 259, 1)
+        && has_shape(shelf, &[(0, 0), (64, 64), (1, 1)])
+        && sprinkle(shelf, 263, 5)
+        && has_shape(shelf, &[(0, 0), (64, 64), (6, 6)])
+        && joined_keeps_text(shelf, true)
+        && has_shape(shelf, &[(0, 0), (70, 70)])
+}
+
 #[test]
 fn edits_and_a_squash_shape_the_layers(rt: HostRuntime) -> Result<(), Fail> {
     let mut shelf = shelf_of_400(rt.alloc()).ok_or("no shelf")?;
-    assert!(rt; sprinkle(&mut shelf, 3, 64) && has_shape(&shelf, &[(0, 0), (64, 64)]));
-    assert!(rt; has_no_squash(&shelf));
-    assert!(rt; sprinkle(&mut shelf, 259, 1) && has_shape(&shelf, &[(0, 0), (64, 64), (1, 1)]));
-    assert!(rt; sprinkle(&mut shelf, 263, 5) && has_shape(&shelf, &[(0, 0), (64, 64), (6, 6)]));
-    assert!(rt; joined_keeps_text(&mut shelf, true));
-    assert!(rt; has_shape(&shelf, &[(0, 0), (70, 70)]));
+    assert!(rt; grows_and_squashes(&mut shelf));
     Ok(())
+}
+
+fn becomes_a_base(shelf: &mut Shelf) -> bool {
+    sprinkle(shelf, 3, 70) && joined_keeps_text(shelf, false) && has_shape(shelf, &[(0, 0)])
 }
 
 #[test]
 fn a_new_base_has_no_layer_above(rt: HostRuntime) -> Result<(), Fail> {
     let mut shelf = shelf_of_400(rt.alloc()).ok_or("no shelf")?;
-    assert!(rt; sprinkle(&mut shelf, 3, 70));
-    assert!(rt; joined_keeps_text(&mut shelf, false));
-    assert!(rt; has_shape(&shelf, &[(0, 0)]));
+    assert!(rt; becomes_a_base(&mut shelf));
     places_are_sound(&shelf);
     Ok(())
 }
@@ -195,19 +205,44 @@ fn hold(shelf: &mut Shelf, place: u32, hand: u32) -> bool {
     true
 }
 
+fn is_top(shelf: &Shelf, place: u32, free: u32) -> bool {
+    shelf.top() == place && shelf.free() == free
+}
+
+// Whether two edits, one after the other, both stand on the opening text.
+fn stand_on_the_first(shelf: &mut Shelf) -> bool {
+    has_parent(shelf, 0, None)
+        && is_top(shelf, 0, 271)
+        && hold(shelf, 0, 5)
+        && tells_the_top(shelf)
+        && has_parent(shelf, 1, Some(0))
+        && shelf.top() == 1
+        && edit(shelf, 3, place(0), "z")
+        && has_parent(shelf, 2, Some(0))
+        && shows(shelf, 3, "zyab")
+}
+
+// Whether the place between is freed, and a new base is put there.
+fn frees_between(shelf: &mut Shelf) -> bool {
+    shelf.narrow();
+    shelf.collect() == 1
+        && !shelf.live(1)
+        && shelf.live(0)
+        && rebase(shelf)
+        && has_parent(shelf, 1, None)
+}
+
+// Whether two more are freed where the hand is quiet.
+fn frees_others(shelf: &mut Shelf) -> bool {
+    shelf.quiet(5);
+    shelf.collect() == 2 && shelf.free() == 271 && shows(shelf, 3, "zyab")
+}
+
 #[test]
 fn a_place_stands_on_what_is_less_deep(rt: HostRuntime) -> Result<(), Fail> {
     let mut shelf = opened(rt.alloc(), "ab", 7).ok_or("no shelf")?;
-    assert!(rt; has_parent(&shelf, 0, None) && shelf.top() == 0 && shelf.free() == 271);
-    assert!(rt; hold(&mut shelf, 0, 5) && tells_the_top(&mut shelf));
-    assert!(rt; has_parent(&shelf, 1, Some(0)) && shelf.top() == 1);
-    assert!(rt; edit(&mut shelf, 3, place(0), "z") && has_parent(&shelf, 2, Some(0)));
-    assert!(rt; shows(&shelf, 3, "zyab"));
-    shelf.narrow();
-    assert!(rt; shelf.collect() == 1 && !shelf.live(1) && shelf.live(0));
-    assert!(rt; rebase(&mut shelf) && has_parent(&shelf, 1, None));
-    shelf.quiet(5);
-    assert!(rt; shelf.collect() == 2 && shelf.free() == 271 && shows(&shelf, 3, "zyab"));
+    assert!(rt; stand_on_the_first(&mut shelf));
+    assert!(rt; frees_between(&mut shelf) && frees_others(&mut shelf));
     Ok(())
 }
 
@@ -236,21 +271,33 @@ fn has_units(alloc: Global, reader: &Reader, of: Range, expected: &[u16]) -> Opt
     Some(units.as_slice() == expected && pieces.as_slice() == expected)
 }
 
+// Two edits, and two readers of what they made, while a third edit takes it all out.
+fn readers_of_two_edits(shelf: &mut Shelf) -> Option<(Reader, Reader)> {
+    if !edit(shelf, 5, place(0), "a") || !edit(shelf, 6, range(at(1, 2), at(1, 2)), "c") {
+        return None;
+    }
+    let reader = top_reader(shelf)?;
+    let clone = cloned(&reader)?;
+    if edit(shelf, 7, range(at(0, 0), at(9, 9)), "") && shows(shelf, 7, "") {
+        Some((reader, clone))
+    } else {
+        None
+    }
+}
+
+fn keeps_its_text(alloc: Global, clone: &Reader) -> bool {
+    reads(clone, 6, "ab\r\n\u{1f600}c")
+        && looks_up(clone)
+        && has_units(alloc, clone, range(at(0, 1), at(1, 1)), &[98, 13, 10]) == Some(true)
+}
+
 #[test]
 fn a_reader_keeps_its_text(rt: HostRuntime) -> Result<(), Fail> {
     let mut shelf = opened(rt.alloc(), "b\r\n\u{1f600}", 4).ok_or("no shelf")?;
-    assert!(rt;
-        edit(&mut shelf, 5, place(0), "a") && edit(&mut shelf, 6, range(at(1, 2), at(1, 2)), "c")
-    );
-    let reader = top_reader(&shelf).ok_or("no reader")?;
-    let clone = cloned(&reader).ok_or("no clone")?;
-    assert!(rt; edit(&mut shelf, 7, range(at(0, 0), at(9, 9)), "") && shows(&shelf, 7, ""));
+    let (reader, clone) = readers_of_two_edits(&mut shelf).ok_or("no readers")?;
     drop(shelf);
     drop(reader);
-    assert!(rt; reads(&clone, 6, "ab\r\n\u{1f600}c") && looks_up(&clone));
-    assert!(rt;
-        has_units(rt.alloc(), &clone, range(at(0, 1), at(1, 1)), &[98, 13, 10]) == Some(true)
-    );
+    assert!(rt; keeps_its_text(rt.alloc(), &clone));
     Ok(())
 }
 
@@ -353,13 +400,21 @@ fn is_too_long(shelf: &Shelf, range: Range, text: &str) -> bool {
     matches!(shelf.build(1, range, text), Err(TextRefusal::TooLong))
 }
 
+// Whether a full text takes as much as an edit takes out, and no unit more.
+fn stays_full(shelf: &mut Shelf) -> bool {
+    let first = range(at(0, 0), at(0, 1));
+    is_too_long(shelf, place(5), "x")
+        && is_too_long(shelf, first, "xy")
+        && edit(shelf, 1, first, "y")
+        && has_shape(shelf, &[(0, 0), (1, 2)])
+        && edit(shelf, 2, first, "")
+        && edit(shelf, 3, place(5), "x")
+        && is_too_long(shelf, place(5), "x")
+}
+
 #[test]
 fn no_text_becomes_too_long(rt: HostRuntime) -> Result<(), Fail> {
     let mut shelf = full_shelf(rt.alloc()).ok_or("no shelf")?;
-    let first = range(at(0, 0), at(0, 1));
-    assert!(rt; is_too_long(&shelf, place(5), "x") && is_too_long(&shelf, first, "xy"));
-    assert!(rt; edit(&mut shelf, 1, first, "y") && has_shape(&shelf, &[(0, 0), (1, 2)]));
-    assert!(rt; edit(&mut shelf, 2, first, "") && edit(&mut shelf, 3, place(5), "x"));
-    assert!(rt; is_too_long(&shelf, place(5), "x"));
+    assert!(rt; stays_full(&mut shelf));
     Ok(())
 }

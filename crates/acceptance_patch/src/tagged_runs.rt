@@ -1,11 +1,11 @@
 //! Runs of edits on a text kept unit by unit: each unit with its offset in the original text where it
 //! comes from there. What a patch says of a run is compared with the gaps between these units.
+use crate::patch_cases::range_of;
 use line_text::LineText;
 use patch::{ChangeView, Patch};
 use patch_algebra::apply;
 use points::{Range, Units};
 use std::alloc::Global;
-use std::test::Fail;
 
 /// A unit, with its offset in the original text where it comes from there.
 #[derive(Clone, Copy, Debug, Drop)]
@@ -51,21 +51,21 @@ impl Numbers {
     }
 
     /// Fewer than `most` units, each one of these.
-    pub fn units(&mut self, alloc: Global, most: usize, of: &[u16]) -> Result<Units, Fail> {
+    pub fn units(&mut self, alloc: Global, most: usize, of: &[u16]) -> Option<Units> {
         let mut units = Units::new(alloc);
         for _ in 0..self.next(most) {
-            let unit = of.get(self.next(of.len())).ok_or("no such unit")?;
-            units.append(&[*unit])?;
+            let unit = of.get(self.next(of.len()))?;
+            units.append(&[*unit]).ok()?;
         }
-        Ok(units)
+        Some(units)
     }
 
     /// One edit of a few units in a text of `len` units.
-    pub fn edit(&mut self, alloc: Global, len: usize, of: &[u16]) -> Result<Edit, Fail> {
+    pub fn edit(&mut self, alloc: Global, len: usize, of: &[u16]) -> Option<Edit> {
         let from = self.next(len.saturating_add(1));
         let to = from.saturating_add(self.next(4)).min(len);
         let units = self.units(alloc, 4, of)?;
-        Ok(Edit { from, to, units })
+        Some(Edit { from, to, units })
     }
 }
 
@@ -75,99 +75,110 @@ pub fn units_of(text: &LineText) -> &[u16] {
 }
 
 /// A text with these units.
-pub fn text_of(alloc: Global, units: &[u16]) -> Result<LineText, Fail> {
-    Ok(LineText::from_units(copied(alloc, units)?)?)
+pub fn text_of(alloc: Global, units: &[u16]) -> Option<LineText> {
+    LineText::from_units(copied(alloc, units)?).ok()
 }
 
 /// Equal units.
-pub fn copied(alloc: Global, units: &[u16]) -> Result<Units, Fail> {
+pub fn copied(alloc: Global, units: &[u16]) -> Option<Units> {
     let mut copy = Units::new(alloc);
-    copy.append(units)?;
-    Ok(copy)
+    copy.append(units).ok()?;
+    Some(copy)
 }
 
-/// The way before any edit.
-pub fn way_of(alloc: Global, text: &LineText) -> Result<Way, Fail> {
-    Ok(Way {
-        patch: Patch::new(alloc),
-        text: text_of(alloc, units_of(text))?,
-        tagged: tags_of(alloc, units_of(text))?,
+/// The way of a patch, a text and its units with tags, where there are these.
+pub fn way_from(patch: Option<Patch>, text: LineText, tagged: Option<Vec<Tagged>>) -> Option<Way> {
+    Some(Way {
+        patch: patch?,
+        text,
+        tagged: tagged?,
     })
 }
 
+/// The way before any edit.
+pub fn way_of(alloc: Global, text: &LineText) -> Option<Way> {
+    way_from(
+        Some(Patch::new(alloc)),
+        text_of(alloc, units_of(text))?,
+        tags_of(alloc, units_of(text)),
+    )
+}
+
 // The units with their offsets.
-fn tags_of(alloc: Global, units: &[u16]) -> Result<Vec<Tagged>, Fail> {
+fn tags_of(alloc: Global, units: &[u16]) -> Option<Vec<Tagged>> {
     let mut tagged = Vec::new(alloc);
     for (at, unit) in units.iter().enumerate() {
-        tagged.push(Tagged {
-            unit: *unit,
-            from: Some(at),
-        })?;
+        tagged
+            .push(Tagged {
+                unit: *unit,
+                from: Some(at),
+            })
+            .ok()?;
     }
-    Ok(tagged)
+    Some(tagged)
 }
 
 /// The text after an edit.
-pub fn text_after(alloc: Global, text: &LineText, edit: &Edit) -> Result<LineText, Fail> {
+pub fn text_after(alloc: Global, text: &LineText, edit: &Edit) -> Option<LineText> {
     let units = units_of(text);
     let mut new = copied(alloc, units.get(..edit.from).unwrap_or(&[]))?;
-    new.append(edit.units.as_slice())?;
-    new.append(units.get(edit.to..).unwrap_or(&[]))?;
-    Ok(LineText::from_units(new)?)
+    new.append(edit.units.as_slice()).ok()?;
+    new.append(units.get(edit.to..).unwrap_or(&[])).ok()?;
+    LineText::from_units(new).ok()
 }
 
 /// The units with tags after an edit.
-pub fn tagged_after(alloc: Global, tagged: &[Tagged], edit: &Edit) -> Result<Vec<Tagged>, Fail> {
+pub fn tagged_after(alloc: Global, tagged: &[Tagged], edit: &Edit) -> Option<Vec<Tagged>> {
     let mut new = Vec::new(alloc);
-    new.extend_from_slice(tagged.get(..edit.from).unwrap_or(&[]))?;
+    new.extend_from_slice(tagged.get(..edit.from).unwrap_or(&[]))
+        .ok()?;
     for unit in edit.units.as_slice() {
         new.push(Tagged {
             unit: *unit,
             from: None,
-        })?;
+        })
+        .ok()?;
     }
-    new.extend_from_slice(tagged.get(edit.to..).unwrap_or(&[]))?;
-    Ok(new)
+    new.extend_from_slice(tagged.get(edit.to..).unwrap_or(&[]))
+        .ok()?;
+    Some(new)
 }
 
 /// The way after an edit, by a splice of its patch.
-pub fn spliced(alloc: Global, original: &LineText, way: Way, edit: &Edit) -> Result<Way, Fail> {
+pub fn spliced(alloc: Global, original: &LineText, way: Way, edit: &Edit) -> Option<Way> {
     let Way {
-        mut patch,
+        patch,
         text,
         tagged,
     } = way;
-    splice(alloc, &mut patch, original, edit)?;
-    Ok(Way {
-        patch,
-        text: text_after(alloc, &text, edit)?,
-        tagged: tagged_after(alloc, tagged.as_slice(), edit)?,
-    })
+    way_from(
+        splice(alloc, patch, original, edit),
+        text_after(alloc, &text, edit)?,
+        tagged_after(alloc, tagged.as_slice(), edit),
+    )
 }
 
-// Splices the patch by an edit of what it makes of the original text.
-fn splice(alloc: Global, patch: &mut Patch, original: &LineText, edit: &Edit) -> Result<(), Fail> {
-    let made = apply(alloc, patch, original)?;
+// The patch spliced by an edit of what it makes of the original text.
+fn splice(alloc: Global, patch: Patch, original: &LineText, edit: &Edit) -> Option<Patch> {
+    let mut patch = patch;
+    let made = apply(alloc, &patch, original).ok()?;
     if edit.from > edit.to || edit.to > made.len() {
-        Err("there are no such units")?;
+        return None;
     }
     let start = made.point_at(edit.from);
     let deleted = made.slice(edit.from, edit.to);
-    patch.splice(start, deleted, edit.units.as_slice())?;
-    Ok(())
+    match patch.splice(start, deleted, edit.units.as_slice()) {
+        Ok(()) => Some(patch),
+        Err(_) => None,
+    }
 }
 
 /// The range between two offsets.
-pub fn between(text: &LineText, from: usize, to: usize) -> Result<Range, Fail> {
+pub fn between(text: &LineText, from: usize, to: usize) -> Option<Range> {
     if from > to || to > text.len() {
-        Err("an offset is past the text")?;
+        return None;
     }
-    let start = text.point_at(from);
-    let end = text.point_at(to);
-    if start > end {
-        Err("a range ends before it starts")?;
-    }
-    Ok(Range::new(start, end))
+    range_of(text.point_at(from), text.point_at(to))
 }
 
 // Whether the change takes these units of the old text and makes these of the new one.
@@ -177,20 +188,23 @@ fn is_gap(
     new: &LineText,
     from: [usize; 2],
     to: [usize; 2],
-) -> Result<bool, Fail> {
-    if change.old_range != between(old, from[0], from[1])?
-        || change.new_range != between(new, to[0], to[1])?
-    {
-        return Ok(false);
+) -> bool {
+    between(old, from[0], from[1]) == Some(change.old_range)
+        && between(new, to[0], to[1]) == Some(change.new_range)
+        && Some(change.old_text) == units_of(old).get(from[0]..from[1])
+        && Some(change.new_text) == units_of(new).get(to[0]..to[1])
+}
+
+// Whether the change with this index is that gap.
+fn has_gap(original: &LineText, way: &Way, index: usize, from: [usize; 2], to: [usize; 2]) -> bool {
+    match way.patch.change(index) {
+        Some(change) => is_gap(change, original, &way.text, from, to),
+        None => false,
     }
-    Ok(
-        Some(change.old_text) == units_of(old).get(from[0]..from[1])
-            && Some(change.new_text) == units_of(new).get(to[0]..to[1]),
-    )
 }
 
 /// Whether the patch of the way has exactly the gaps between its tagged units.
-pub fn has_gaps(original: &LineText, way: &Way) -> Result<bool, Fail> {
+pub fn has_gaps(original: &LineText, way: &Way) -> bool {
     let mut found = 0usize;
     let mut old_end = 0usize;
     let mut new_end = 0usize;
@@ -203,16 +217,13 @@ pub fn has_gaps(original: &LineText, way: &Way) -> Result<bool, Fail> {
             None => original.len(),
         };
         if next > old_end || at > new_end {
-            let Some(change) = way.patch.change(found) else {
-                return Ok(false);
-            };
-            if !is_gap(change, original, &way.text, [old_end, next], [new_end, at])? {
-                return Ok(false);
+            if !has_gap(original, way, found, [old_end, next], [new_end, at]) {
+                return false;
             }
             found = found.saturating_add(1);
         }
         old_end = next.saturating_add(1);
         new_end = at.saturating_add(1);
     }
-    Ok(found == way.patch.count())
+    found == way.patch.count()
 }

@@ -1,18 +1,13 @@
 //! Watchers: what is heard, and who is refused.
-use crate::patch_cases::{range, units};
+use crate::patch_cases::change;
 use patch::Change;
 use std::alloc::Global;
 use std::test::Fail;
 use watch::{ListWatcher, WatchBack, Watcher, Watchers};
 
-// An insertion of `x` at the start of a row.
-fn insertion(alloc: Global, row: u32) -> Result<Change, Fail> {
-    Ok(Change {
-        old_range: range([row, 0, row, 0])?,
-        new_range: range([row, 0, row, 1])?,
-        old_text: units(alloc, "")?,
-        new_text: units(alloc, "x")?,
-    })
+// An insertion of `x` at the start of the text.
+fn insertion(alloc: Global) -> Option<Change> {
+    change(alloc, ([0, 0, 0, 0], "", [0, 0, 0, 1], "x"))
 }
 
 // Whether the watcher was refused as one whose id is taken, and came back with this count.
@@ -34,17 +29,15 @@ fn is_back<E>(answer: &Result<(Box<dyn Watcher>, u64), E>, told: u64, count: u64
 #[test]
 fn taken_and_unknown(rt: HostRuntime) -> Result<(), Fail> {
     let alloc = rt.alloc();
-    let mut watchers = Watchers::new();
-    assert!(rt; watchers.detach(7).is_err());
-    let first = Box::new(alloc, ListWatcher::new(alloc, 1)?)?;
-    assert!(rt; watchers.attach(7, first).is_ok());
-    let change = insertion(alloc, 0)?;
-    watchers.tell(&change);
+    let change = insertion(alloc).ok_or("no change")?;
     let second = Box::new(alloc, ListWatcher::new(alloc, 1)?)?;
+    let first = Box::new(alloc, ListWatcher::new(alloc, 1)?)?;
+    let mut watchers = Watchers::new();
+    assert!(rt; watchers.detach(7).is_err() && watchers.attach(7, first).is_ok());
+    watchers.tell(&change);
     assert!(rt; is_taken(&watchers.attach(7, second), 0));
     watchers.tell(&change);
-    assert!(rt; is_back(&watchers.detach(7), 2, 2));
-    assert!(rt; watchers.detach(7).is_err());
+    assert!(rt; is_back(&watchers.detach(7), 2, 2) && watchers.detach(7).is_err());
     Ok(())
 }
 
@@ -66,18 +59,17 @@ fn ids_are(watchers: &Watchers, ids: &[u32]) -> bool {
 #[test]
 fn heard_since_attached(rt: HostRuntime) -> Result<(), Fail> {
     let alloc = rt.alloc();
-    let change = insertion(alloc, 0)?;
+    let change = insertion(alloc).ok_or("no change")?;
+    let second = Box::new(alloc, ListWatcher::new(alloc, 8)?)?;
     let mut before = ListWatcher::new(alloc, 8)?;
     before.changed(&change);
-    let mut watchers = Watchers::new();
     let first = Box::new(alloc, before)?;
+    let mut watchers = Watchers::new();
     assert!(rt; watchers.attach(5, first).is_ok());
     watchers.tell(&change);
-    let second = Box::new(alloc, ListWatcher::new(alloc, 8)?)?;
     assert!(rt; watchers.attach(1, second).is_ok());
     watchers.tell(&change);
     assert!(rt; ids_are(&watchers, &[1, 5]));
-    assert!(rt; is_back(&watchers.detach(5), 2, 3));
-    assert!(rt; is_back(&watchers.detach(1), 1, 1));
+    assert!(rt; is_back(&watchers.detach(5), 2, 3) && is_back(&watchers.detach(1), 1, 1));
     Ok(())
 }

@@ -171,99 +171,138 @@ fn reads(plain: &Plain, units: &[u16]) -> bool {
     plain.text() == units
 }
 
+fn cannot_mark(plain: &mut Plain, id: u32, from: u32, to: u32) -> bool {
+    is_refused(mark(plain, id, from, to, false), CallRefusal::MarkTaken)
+}
+
+fn cannot_unmark(plain: &mut Plain, id: u32) -> bool {
+    is_refused(
+        answer(plain, &Command::Unmark { id }),
+        CallRefusal::MarkUnknown,
+    )
+}
+
+// Whether a mark is taken, moves with an edit and is found, and calls that are refused are counted too.
+fn marks_hello(plain: &mut Plain, alloc: Global) -> bool {
+    is_done(mark(plain, 1, 1, 3, false))
+        && cannot_mark(plain, 1, 1, 3)
+        && edits(plain, alloc, "X", ([3, 3, 4], [1, 0, 0, 0]))
+        && is_at(plain, 1, 1, 4)
+        && finds(plain, 4, 1)
+        && is_same(plain, 1)
+        && cannot_unmark(plain, 9)
+        && plain.count() == 7
+}
+
 #[test]
 fn marks_on_hello(rt: HostRuntime) -> Result<(), Fail> {
     let mut plain = started(rt.alloc(), "hello").ok_or("none")?;
-    assert!(rt; is_done(mark(&mut plain, 1, 1, 3, false)));
-    assert!(rt; is_refused(mark(&mut plain, 1, 1, 3, false), CallRefusal::MarkTaken));
-    assert!(rt; edits(&mut plain, rt.alloc(), "X", ([3, 3, 4], [1, 0, 0, 0])));
-    assert!(rt; is_at(&mut plain, 1, 1, 4));
-    assert!(rt; finds(&mut plain, 4, 1));
-    assert!(rt; is_same(&mut plain, 1));
-    assert!(rt;
-        is_refused(
-            answer(&mut plain, &Command::Unmark { id: 9 }),
-            CallRefusal::MarkUnknown
-        )
-    );
-    assert!(rt; plain.count() == 7);
+    assert!(rt; marks_hello(&mut plain, rt.alloc()));
     Ok(())
+}
+
+fn puts_marks(plain: &mut Plain, rows: &[(u32, u32, u32, bool)]) -> bool {
+    for (id, from, to, exclusive) in rows {
+        if !is_done(mark(plain, *id, *from, *to, *exclusive)) {
+            return false;
+        }
+    }
+    true
+}
+
+fn has_marks(plain: &mut Plain, rows: &[(u32, u32, u32)]) -> bool {
+    for (id, from, to) in rows {
+        if !is_at(plain, *id, *from, *to) {
+            return false;
+        }
+    }
+    true
 }
 
 #[test]
 fn six_marks_around_an_insertion(rt: HostRuntime) -> Result<(), Fail> {
     let mut plain = started(rt.alloc(), "aaaa").ok_or("none")?;
-    for (id, from, to, exclusive) in [
+    let before = [
         (1, 2, 2, false),
         (2, 2, 2, true),
         (3, 2, 4, false),
         (4, 2, 4, true),
         (5, 0, 2, false),
         (6, 0, 2, true),
-    ] {
-        assert!(rt; is_done(mark(&mut plain, id, from, to, exclusive)), "{id}");
-    }
+    ];
+    assert!(rt; puts_marks(&mut plain, &before));
     assert!(rt; edits(&mut plain, rt.alloc(), "bbb", ([2, 2, 5], [6, 0, 0, 0])));
-    for (id, from, to) in [
+    let after = [
         (1, 2, 5),
         (2, 5, 5),
         (3, 2, 7),
         (4, 5, 7),
         (5, 0, 5),
         (6, 0, 2),
-    ] {
-        assert!(rt; is_at(&mut plain, id, from, to), "{id}");
-    }
+    ];
+    assert!(rt; has_marks(&mut plain, &after));
     Ok(())
+}
+
+// Whether an undo answers this, and leaves these units.
+fn undoes(plain: &mut Plain, row: Row, units: &[u16]) -> bool {
+    is_part(answer(plain, &Command::Undo), row) && reads(plain, units)
+}
+
+fn redoes(plain: &mut Plain, row: Row, units: &[u16]) -> bool {
+    is_part(answer(plain, &Command::Redo), row) && reads(plain, units)
+}
+
+fn cannot_undo(plain: &mut Plain) -> bool {
+    is_refused(answer(plain, &Command::Undo), CallRefusal::Nothing)
+}
+
+fn parts_and_joins(plain: &mut Plain, alloc: Global) -> bool {
+    edits(plain, alloc, "\r", ([0, 0, 1], [0, 0, 0, 0]))
+        && reads(plain, &[13, 10])
+        && undoes(plain, ([0, 1, 0], [0, 0, 0, 0]), &[10])
+        && cannot_undo(plain)
+        && redoes(plain, ([0, 0, 1], [0, 0, 0, 0]), &[13, 10])
 }
 
 #[test]
 fn undo_of_a_carriage_return_before_a_line_feed(rt: HostRuntime) -> Result<(), Fail> {
     let mut plain = started(rt.alloc(), "\n").ok_or("none")?;
-    assert!(rt; edits(&mut plain, rt.alloc(), "\r", ([0, 0, 1], [0, 0, 0, 0])));
-    assert!(rt; reads(&plain, &[13, 10]));
-    assert!(rt;
-        is_part(
-            answer(&mut plain, &Command::Undo),
-            ([0, 1, 0], [0, 0, 0, 0])
-        )
-    );
-    assert!(rt; reads(&plain, &[10]));
-    assert!(rt; is_refused(answer(&mut plain, &Command::Undo), CallRefusal::Nothing));
-    assert!(rt;
-        is_part(
-            answer(&mut plain, &Command::Redo),
-            ([0, 0, 1], [0, 0, 0, 0])
-        )
-    );
-    assert!(rt; reads(&plain, &[13, 10]));
+    assert!(rt; parts_and_joins(&mut plain, rt.alloc()));
     Ok(())
+}
+
+fn watches(plain: &mut Plain, id: u32) -> bool {
+    is_done(answer(plain, &Command::Watch { id }))
+}
+
+fn cannot_watch(plain: &mut Plain, id: u32) -> bool {
+    is_refused(
+        answer(plain, &Command::Watch { id }),
+        CallRefusal::WatchTaken,
+    )
+}
+
+fn cannot_unwatch(plain: &mut Plain, id: u32) -> bool {
+    is_refused(
+        answer(plain, &Command::Unwatch { id }),
+        CallRefusal::WatchUnknown,
+    )
+}
+
+fn hears_changes(plain: &mut Plain, alloc: Global) -> bool {
+    watches(plain, 7)
+        && cannot_watch(plain, 7)
+        && edits(plain, alloc, "x", ([0, 0, 1], [0, 0, 0, 0]))
+        && edits(plain, alloc, "", ([0, 0, 0], [0, 0, 0, 0]))
+        && is_part(answer(plain, &Command::Undo), ([0, 1, 0], [0, 0, 0, 0]))
+        && heard(plain, 7) == Some(2)
+        && cannot_unwatch(plain, 7)
 }
 
 #[test]
 fn a_watcher_hears_each_change_once(rt: HostRuntime) -> Result<(), Fail> {
     let mut plain = started(rt.alloc(), "ab").ok_or("none")?;
-    assert!(rt; is_done(answer(&mut plain, &Command::Watch { id: 7 })));
-    assert!(rt;
-        is_refused(
-            answer(&mut plain, &Command::Watch { id: 7 }),
-            CallRefusal::WatchTaken
-        )
-    );
-    assert!(rt; edits(&mut plain, rt.alloc(), "x", ([0, 0, 1], [0, 0, 0, 0])));
-    assert!(rt; edits(&mut plain, rt.alloc(), "", ([0, 0, 0], [0, 0, 0, 0])));
-    assert!(rt;
-        is_part(
-            answer(&mut plain, &Command::Undo),
-            ([0, 1, 0], [0, 0, 0, 0])
-        )
-    );
-    assert!(rt; heard(&mut plain, 7) == Some(2));
-    assert!(rt;
-        is_refused(
-            answer(&mut plain, &Command::Unwatch { id: 7 }),
-            CallRefusal::WatchUnknown
-        )
-    );
+    assert!(rt; hears_changes(&mut plain, rt.alloc()));
     Ok(())
 }

@@ -122,6 +122,25 @@ fn clips(text: &LineText, point: Point, clipped: Point) -> bool {
     text.clip(point) == clipped && text.offset_of(clipped).is_some()
 }
 
+// Whether each point is found at its offset, and each offset at its point.
+fn finds_all(text: &LineText, places: &[(usize, Point)]) -> bool {
+    for (offset, point) in places {
+        if !finds(text, *offset, *point) {
+            return false;
+        }
+    }
+    true
+}
+
+fn finds_none(text: &LineText, points: &[Point]) -> bool {
+    for point in points {
+        if !finds_nothing(text, *point) {
+            return false;
+        }
+    }
+    true
+}
+
 #[test]
 fn finds_points_and_offsets(rt: HostRuntime) -> Result<(), Fail> {
     // The rows are "ab" CR LF, CR "c" LF and "", by offsets 0 to 3, 4 to 6 and 7.
@@ -134,13 +153,18 @@ fn finds_points_and_offsets(rt: HostRuntime) -> Result<(), Fail> {
         (6, at(1, 2)),
         (7, at(2, 0)),
     ];
-    for (offset, point) in places {
-        assert!(rt; finds(&text, offset, point), "at {offset}");
-    }
-    for point in [at(0, 4), at(1, 3), at(2, 1), at(3, 0)] {
-        assert!(rt; finds_nothing(&text, point), "at {point:?}");
-    }
+    assert!(rt; finds_all(&text, &places));
+    assert!(rt; finds_none(&text, &[at(0, 4), at(1, 3), at(2, 1), at(3, 0)]));
     Ok(())
+}
+
+fn clips_all(text: &LineText, clipped: &[(Point, Point)]) -> bool {
+    for (point, expected) in clipped {
+        if !clips(text, *point, *expected) {
+            return false;
+        }
+    }
+    true
 }
 
 #[test]
@@ -153,9 +177,7 @@ fn clips_points(rt: HostRuntime) -> Result<(), Fail> {
         (at(2, 1), at(2, 0)),
         (at(7, 0), at(2, 0)),
     ];
-    for (point, expected) in clipped {
-        assert!(rt; clips(&text, point, expected), "at {point:?}");
-    }
+    assert!(rt; clips_all(&text, &clipped));
     Ok(())
 }
 
@@ -177,24 +199,30 @@ fn has_line(alloc: Global, text: &LineText, row: u32, line: &str, ending: Ending
     }
 }
 
+// Whether the text has these lines with their endings, and no row behind them.
+fn has_lines(alloc: Global, text: &LineText, lines: &[(&str, Ending)]) -> bool {
+    let mut row = 0;
+    for (line, ending) in lines {
+        if !has_line(alloc, text, row, line, *ending) {
+            return false;
+        }
+        row = row.saturating_add(1);
+    }
+    has_rows(text, row)
+}
+
 #[test]
 fn tells_lines_and_endings(rt: HostRuntime) -> Result<(), Fail> {
     // A carriage return ends no row by itself, also at the end of the text.
     let text = made(rt.alloc(), "a\rb\r\n\nc\n\r\nd\r").ok_or("no text")?;
-    let rows = [
-        (0, "a\rb", Ending::CrLf),
-        (1, "", Ending::Lf),
-        (2, "c", Ending::Lf),
-        (3, "", Ending::CrLf),
-        (4, "d\r", Ending::Last),
+    let lines = [
+        ("a\rb", Ending::CrLf),
+        ("", Ending::Lf),
+        ("c", Ending::Lf),
+        ("", Ending::CrLf),
+        ("d\r", Ending::Last),
     ];
-    for (row, line, ending) in rows {
-        assert!(rt;
-            has_line(rt.alloc(), &text, row, line, ending),
-            "in row {row}"
-        );
-    }
-    assert!(rt; has_rows(&text, 5));
+    assert!(rt; has_lines(rt.alloc(), &text, &lines));
     Ok(())
 }
 
@@ -225,28 +253,41 @@ fn has_extent(text: &LineText, extent: Point) -> bool {
     text.extent() == extent
 }
 
+// Whether the text has a lone surrogate in each of its two rows.
+fn is_unpaired(text: &LineText) -> bool {
+    reads(text, "\u{fffd}\n\u{fffd}a")
+        && has_rows(text, 2)
+        && has_row(text, 1, &[0xde00, 97], Ending::Last)
+        && has_extent(text, at(1, 2))
+}
+
 #[test]
 fn takes_units_that_are_not_well_formed(rt: HostRuntime) -> Result<(), Fail> {
     let text = made_of(rt.alloc(), &[0xd83d, 10, 0xde00, 97]).ok_or("no text")?;
-    assert!(rt; reads(&text, "\u{fffd}\n\u{fffd}a"));
-    assert!(rt; has_rows(&text, 2) && has_row(&text, 1, &[0xde00, 97], Ending::Last));
-    assert!(rt; has_extent(&text, at(1, 2)));
+    assert!(rt; is_unpaired(&text));
     Ok(())
+}
+
+// "two" and its line feed go, and two rows come: "one", "2", "zwei", "three", "four".
+fn puts_rows_in(text: &mut LineText) -> bool {
+    let ends = (at(1, 0), at(2, 0), at(3, 0));
+    edits(text, (at(1, 0), at(2, 0)), "2\nzwei\n", ends)
+        && finds(text, 11, at(3, 0))
+        && finds(text, 21, at(4, 4))
+}
+
+// The rows 1 to 3 become one: "one", "four".
+fn takes_rows_out(text: &mut LineText) -> bool {
+    let ends = (at(1, 0), at(4, 0), at(1, 0));
+    edits(text, (at(1, 0), at(4, 0)), "", ends)
+        && has_extent(text, at(1, 4))
+        && finds(text, 8, at(1, 4))
 }
 
 #[test]
 fn keeps_rows_through_edits(rt: HostRuntime) -> Result<(), Fail> {
     let mut text = made(rt.alloc(), "one\ntwo\nthree\nfour").ok_or("no text")?;
-    // "two" and its line feed go, and two rows come: "one", "2", "zwei", "three", "four".
-    let rows = (at(1, 0), at(2, 0));
-    let ends = (at(1, 0), at(2, 0), at(3, 0));
-    assert!(rt; edits(&mut text, rows, "2\nzwei\n", ends));
-    assert!(rt; finds(&text, 11, at(3, 0)) && finds(&text, 21, at(4, 4)));
-    // The rows 1 to 3 become one: "one", "four".
-    let rows = (at(1, 0), at(4, 0));
-    let ends = (at(1, 0), at(4, 0), at(1, 0));
-    assert!(rt; edits(&mut text, rows, "", ends));
-    assert!(rt; has_extent(&text, at(1, 4)) && finds(&text, 8, at(1, 4)));
+    assert!(rt; puts_rows_in(&mut text) && takes_rows_out(&mut text));
     Ok(())
 }
 

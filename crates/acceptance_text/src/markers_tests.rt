@@ -221,23 +221,32 @@ fn cannot_compare(index: &MarkerIndex, a: u32, b: u32) -> bool {
     index.compare(a, b).is_err()
 }
 
+// Whether an index of these two marks refuses an id that is taken, and ids that aren't there.
+fn refuses_ids(index: &mut MarkerIndex, rows: &[RowMark]) -> bool {
+    refuses(index, row(9, 5, 6, true), MarkerRefusal::MarkTaken)
+        && cannot_remove(index, 3)
+        && cannot_set(index, 10)
+        && is_unknown(index, 0)
+        && cannot_compare(index, 2, 3)
+        && cannot_compare(index, 3, 2)
+        && stand(index, rows)
+}
+
+// Whether the first mark becomes exclusive, and the second goes.
+fn changes_marks(index: &mut MarkerIndex) -> bool {
+    sets_exclusive(index, 9)
+        && removes(index, 2)
+        && is_unknown(index, 2)
+        && stand(index, &[row(9, 0, 3, true)])
+        && index.len() == 1
+}
+
 #[test]
 fn taken_and_unknown_ids(rt: HostRuntime) {
     let rows = [row(9, 0, 3, false), row(2, 1, 1, true)];
     let mut index = MarkerIndex::new(rt.alloc());
     assert!(rt; filled(&mut index, &rows));
-    assert!(rt; refuses(&mut index, row(9, 5, 6, true), MarkerRefusal::MarkTaken));
-    assert!(rt; cannot_remove(&mut index, 3));
-    assert!(rt; cannot_set(&mut index, 10));
-    assert!(rt; is_unknown(&index, 0));
-    assert!(rt; cannot_compare(&index, 2, 3));
-    assert!(rt; cannot_compare(&index, 3, 2));
-    assert!(rt; stand(&index, &rows));
-    assert!(rt; sets_exclusive(&mut index, 9));
-    assert!(rt; removes(&mut index, 2));
-    assert!(rt; is_unknown(&index, 2));
-    assert!(rt; stand(&index, &[row(9, 0, 3, true)]));
-    assert_eq!(rt; index.len(), 1);
+    assert!(rt; refuses_ids(&mut index, &rows) && changes_marks(&mut index));
 }
 
 // Marks of one range with the ids from 0 on, up to the greatest number of marks.
@@ -258,30 +267,27 @@ fn starting_there(index: &MarkerIndex, count: usize) -> bool {
     }
 }
 
+// Whether a full index refuses one mark more, and tells first of an id that is taken.
+fn is_full(index: &mut MarkerIndex) -> bool {
+    refuses(index, row(1_000_000, 2, 4, false), MarkerRefusal::MarksFull)
+        && refuses(index, row(999_999, 2, 4, false), MarkerRefusal::MarkTaken)
+        && index.len() == MAX_MARKS
+        && starting_there(index, MAX_MARKS)
+}
+
+// Whether a change hits all of them, and a mark has room again where one went.
+fn has_room_again(index: &mut MarkerIndex) -> bool {
+    let want = [1_000_000, 1_000_000, 0, 0];
+    counts_are(index, at(0, 3), at(0, 0), at(0, 1), want)
+        && removes(index, 17)
+        && add(index, row(1_000_000, 2, 4, false))
+}
+
 #[test]
 fn a_million_marks_and_one_more(rt: HostRuntime) {
     let mut index = MarkerIndex::new(rt.alloc());
     assert!(rt; all_filled(&mut index));
-    assert!(rt;
-        refuses(
-            &mut index,
-            row(1_000_000, 2, 4, false),
-            MarkerRefusal::MarksFull
-        )
-    );
-    assert!(rt;
-        refuses(
-            &mut index,
-            row(999_999, 2, 4, false),
-            MarkerRefusal::MarkTaken
-        )
-    );
-    assert_eq!(rt; index.len(), MAX_MARKS);
-    assert!(rt; starting_there(&index, MAX_MARKS));
-    let want = [1_000_000, 1_000_000, 0, 0];
-    assert!(rt; counts_are(&mut index, at(0, 3), at(0, 0), at(0, 1), want));
-    assert!(rt; removes(&mut index, 17));
-    assert!(rt; add(&mut index, row(1_000_000, 2, 4, false)));
+    assert!(rt; is_full(&mut index) && has_room_again(&mut index));
 }
 
 // A find: the ids of the marks that it answers.
@@ -305,6 +311,23 @@ fn finds(index: &MarkerIndex, find: u32, range: Range, ids: &[u32]) -> bool {
     }
 }
 
+// Whether the finds of a range answer these marks.
+fn finds_in_ranges(index: &MarkerIndex) -> bool {
+    let range = columns(2, 4);
+    finds(index, 0, range, &[1, 2, 3, 4])
+        && finds(index, 0, columns(4, 4), &[2, 4])
+        && finds(index, 1, range, &[2, 4])
+        && finds(index, 2, range, &[2, 3])
+        && finds(index, 3, range, &[2, 3])
+        && finds(index, 4, range, &[1, 2, 3])
+}
+
+fn finds_at_points(index: &MarkerIndex) -> bool {
+    finds(index, 5, columns(0, 0), &[1, 4])
+        && finds(index, 6, columns(9, 9), &[4, 5])
+        && finds(index, 6, range_at(1, 9), &[])
+}
+
 #[test]
 fn finds_on_a_table_of_ranges(rt: HostRuntime) {
     let rows = [
@@ -316,16 +339,7 @@ fn finds_on_a_table_of_ranges(rt: HostRuntime) {
     ];
     let mut index = MarkerIndex::new(rt.alloc());
     assert!(rt; filled(&mut index, &rows));
-    let range = columns(2, 4);
-    assert!(rt; finds(&index, 0, range, &[1, 2, 3, 4]));
-    assert!(rt; finds(&index, 0, columns(4, 4), &[2, 4]));
-    assert!(rt; finds(&index, 1, range, &[2, 4]));
-    assert!(rt; finds(&index, 2, range, &[2, 3]));
-    assert!(rt; finds(&index, 3, range, &[2, 3]));
-    assert!(rt; finds(&index, 4, range, &[1, 2, 3]));
-    assert!(rt; finds(&index, 5, columns(0, 0), &[1, 4]));
-    assert!(rt; finds(&index, 6, columns(9, 9), &[4, 5]));
-    assert!(rt; finds(&index, 6, range_at(1, 9), &[]));
+    assert!(rt; finds_in_ranges(&index) && finds_at_points(&index));
 }
 
 // The empty range at a point.
@@ -335,6 +349,15 @@ fn range_at(row: u32, column: u32) -> Range {
 
 fn compares(index: &MarkerIndex, a: u32, b: u32, want: MarkOrder) -> bool {
     index.compare(a, b) == Ok(want)
+}
+
+fn compares_all(index: &MarkerIndex) -> bool {
+    compares(index, 4, 2, MarkOrder::Before)
+        && compares(index, 2, 1, MarkOrder::Before)
+        && compares(index, 1, 2, MarkOrder::After)
+        && compares(index, 1, 3, MarkOrder::Before)
+        && compares(index, 3, 1, MarkOrder::After)
+        && compares(index, 3, 3, MarkOrder::Same)
 }
 
 #[test]
@@ -347,12 +370,7 @@ fn compares_by_start_then_end_then_id(rt: HostRuntime) {
     ];
     let mut index = MarkerIndex::new(rt.alloc());
     assert!(rt; filled(&mut index, &rows));
-    assert!(rt; compares(&index, 4, 2, MarkOrder::Before));
-    assert!(rt; compares(&index, 2, 1, MarkOrder::Before));
-    assert!(rt; compares(&index, 1, 2, MarkOrder::After));
-    assert!(rt; compares(&index, 1, 3, MarkOrder::Before));
-    assert!(rt; compares(&index, 3, 1, MarkOrder::After));
-    assert!(rt; compares(&index, 3, 3, MarkOrder::Same));
+    assert!(rt; compares_all(&index));
 }
 
 fn last_is(index: &MarkerIndex, end: Option<Point>) -> bool {

@@ -128,30 +128,41 @@ fn surely_puts_both(sink: &mut SureSink, first: &[u8], second: &[u8]) -> bool {
     put_both_surely(sink, first, second).is_ok()
 }
 
+// Whether five bytes are read in parts of two.
+fn reads_hello(source: &mut MemSource) -> bool {
+    let mut into = [0; 2];
+    reads(source, &mut into, Some(2), *b"he")
+        && reads(source, &mut into, Some(2), *b"ll")
+        && reads(source, &mut into, Some(1), *b"ol")
+        && reads(source, &mut into, Some(0), *b"ol")
+}
+
 #[test]
 fn reads_in_parts_to_the_end(rt: HostRuntime) -> Result<(), Fail> {
     let mut source = source(rt.alloc(), b"hello", Vec::new(rt.alloc()))?;
-    let mut into = [0; 2];
-    for (count, want) in [(2, *b"he"), (2, *b"ll"), (1, *b"ol"), (0, *b"ol")] {
-        assert!(rt; reads(&mut source, &mut into, Some(count), want));
-    }
+    assert!(rt; reads_hello(&mut source));
     Ok(())
+}
+
+// Whether three bytes are read where the first, the third and the fourth call fail.
+fn goes_on(source: &mut MemSource) -> bool {
+    let mut into = [0; 2];
+    reads(source, &mut into, None, [0, 0])
+        && reads(source, &mut into, Some(2), [1, 2])
+        && reads(source, &mut into, None, [1, 2])
+        && reads(source, &mut into, None, [1, 2])
+        && reads(source, &mut into, Some(1), [3, 2])
+}
+
+// A source of these bytes, where the calls with these numbers fail.
+fn failing_source(alloc: Global, bytes: &[u8], fails: &[u64]) -> Result<MemSource, AllocError> {
+    source(alloc, bytes, calls(alloc, fails)?)
 }
 
 #[test]
 fn goes_on_after_a_failed_read(rt: HostRuntime) -> Result<(), Fail> {
-    let fails = calls(rt.alloc(), &[4, 1, 3])?;
-    let mut source = source(rt.alloc(), &[1, 2, 3], fails)?;
-    let mut into = [0; 2];
-    for (answer, want) in [
-        (None, [0, 0]),
-        (Some(2), [1, 2]),
-        (None, [1, 2]),
-        (None, [1, 2]),
-        (Some(1), [3, 2]),
-    ] {
-        assert!(rt; reads(&mut source, &mut into, answer, want));
-    }
+    let mut source = failing_source(rt.alloc(), &[1, 2, 3], &[4, 1, 3])?;
+    assert!(rt; goes_on(&mut source));
     Ok(())
 }
 
@@ -168,73 +179,93 @@ fn reads_all_from_a_sure_source(rt: HostRuntime) -> Result<(), Fail> {
     Ok(())
 }
 
+// Whether reading a text of eleven bytes goes so, where a call fails and with this limit.
+fn reads_seven(alloc: Global, failing: u64, limit: usize, want: &Result<&[u8], Stop>) -> bool {
+    match failing_source(alloc, b"seven bytes", &[failing]) {
+        Ok(mut source) => reads_all(alloc, &mut source, limit, want),
+        Err(_) => false,
+    }
+}
+
 /// The reads of a text of eleven bytes are four of at most three bytes, and a fifth that finds the end.
 #[test]
-fn reads_all_through_the_trait(rt: HostRuntime) -> Result<(), Fail> {
-    for (failing, limit, want) in [
-        (6, 11, Ok(b"seven bytes".as_slice())),
-        (0, 10, Err(Stop::TooLong)),
-        (5, 11, Err(Stop::Failed)),
-    ] {
-        let fails = calls(rt.alloc(), &[failing])?;
-        let mut source = source(rt.alloc(), b"seven bytes", fails)?;
-        assert!(rt; reads_all(rt.alloc(), &mut source, limit, &want));
-    }
-    Ok(())
+fn reads_all_through_the_trait(rt: HostRuntime) {
+    assert!(rt; reads_seven(rt.alloc(), 6, 11, &Ok(b"seven bytes")));
+    assert!(rt; reads_seven(rt.alloc(), 0, 10, &Err(Stop::TooLong)));
+    assert!(rt; reads_seven(rt.alloc(), 5, 11, &Err(Stop::Failed)));
+}
+
+// Whether a sink with room for four bytes takes what fits in.
+fn takes_what_fits(sink: &mut MemSink) -> bool {
+    puts(sink, b"abc")
+        && !puts(sink, b"de")
+        && puts(sink, b"f")
+        && !puts(sink, b"g")
+        && puts(sink, b"")
+        && flushes(sink)
+        && holds(sink, b"abcf")
 }
 
 #[test]
 fn refuses_puts_past_the_room(rt: HostRuntime) -> Result<(), Fail> {
     let mut sink = MemSink::new(rt.alloc(), 4, Vec::new(rt.alloc()))?;
-    for (bytes, fits) in [
-        (b"abc".as_slice(), true),
-        (b"de", false),
-        (b"f", true),
-        (b"g", false),
-        (b"", true),
-    ] {
-        assert!(rt; puts(&mut sink, bytes) == fits);
-    }
-    assert!(rt; flushes(&mut sink));
-    assert!(rt; holds(&sink, b"abcf"));
+    assert!(rt; takes_what_fits(&mut sink));
     Ok(())
+}
+
+// Whether the second and the third call fail.
+fn fails_two_calls(sink: &mut MemSink) -> bool {
+    puts(sink, b"ab")
+        && !flushes(sink)
+        && !puts(sink, b"cd")
+        && puts(sink, b"ef")
+        && flushes(sink)
+        && holds(sink, b"abef")
+}
+
+// A sink with room for nine bytes, where the calls with these numbers fail.
+fn failing_sink(alloc: Global, fails: &[u64]) -> Option<MemSink> {
+    MemSink::new(alloc, 9, calls(alloc, fails).ok()?).ok()
 }
 
 #[test]
 fn fails_puts_and_flushes_by_one_numbering(rt: HostRuntime) -> Result<(), Fail> {
-    let mut sink = MemSink::new(rt.alloc(), 9, calls(rt.alloc(), &[2, 3])?)?;
-    assert!(rt; puts(&mut sink, b"ab"));
-    assert!(rt; !flushes(&mut sink));
-    assert!(rt; !puts(&mut sink, b"cd"));
-    assert!(rt; puts(&mut sink, b"ef"));
-    assert!(rt; flushes(&mut sink));
-    assert!(rt; holds(&sink, b"abef"));
+    let mut sink = failing_sink(rt.alloc(), &[2, 3]).ok_or("no sink")?;
+    assert!(rt; fails_two_calls(&mut sink));
     Ok(())
+}
+
+// Whether three pairs are put so, where the first put of the second pair and the second put of the third one fail.
+fn puts_pairs(sink: &mut MemSink) -> bool {
+    puts_both(sink, b"ab", b"cd")
+        && holds(sink, b"abcd")
+        && !puts_both(sink, b"ef", b"gh")
+        && holds(sink, b"abcd")
+        && !puts_both(sink, b"ij", b"kl")
+        && holds(sink, b"abcdij")
 }
 
 #[test]
 fn puts_both_through_the_trait(rt: HostRuntime) -> Result<(), Fail> {
-    let mut sink = MemSink::new(rt.alloc(), 9, calls(rt.alloc(), &[4, 6])?)?;
-    for (first, second, succeeds, taken) in [
-        (b"ab", b"cd", true, b"abcd".as_slice()),
-        (b"ef", b"gh", false, b"abcd"),
-        (b"ij", b"kl", false, b"abcdij"),
-    ] {
-        assert!(rt; puts_both(&mut sink, first, second) == succeeds);
-        assert!(rt; holds(&sink, taken));
-    }
+    let mut sink = failing_sink(rt.alloc(), &[4, 6]).ok_or("no sink")?;
+    assert!(rt; puts_pairs(&mut sink));
     Ok(())
+}
+
+// Whether a sink with room for four bytes tells them until one more is put.
+fn falls_silent(sink: &mut SureSink) -> bool {
+    surely_puts_both(sink, b"ab", b"cd")
+        && tells(sink, Some(b"abcd"))
+        && puts(sink, b"e")
+        && tells(sink, None)
+        && puts(sink, b"")
+        && flushes(sink)
+        && tells(sink, None)
 }
 
 #[test]
 fn tells_nothing_more_past_its_room(rt: HostRuntime) -> Result<(), Fail> {
     let mut sink = SureSink::new(rt.alloc(), 4)?;
-    assert!(rt; surely_puts_both(&mut sink, b"ab", b"cd"));
-    assert!(rt; tells(&sink, Some(b"abcd")));
-    assert!(rt; puts(&mut sink, b"e"));
-    assert!(rt; tells(&sink, None));
-    assert!(rt; puts(&mut sink, b""));
-    assert!(rt; flushes(&mut sink));
-    assert!(rt; tells(&sink, None));
+    assert!(rt; falls_silent(&mut sink));
     Ok(())
 }

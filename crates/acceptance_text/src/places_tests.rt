@@ -93,35 +93,51 @@ fn gets_another_top(table: &mut Table<u32>, place: u32) -> bool {
     table.still(top) && put(table, PLACES as u32, 13) == Some(place) && !table.still(top)
 }
 
+fn stand_three_deep(table: &Table<u32>) -> bool {
+    has(table, 0, None, 1, 8, 10)
+        && has(table, 1, Some(0), 2, 8, 11)
+        && has(table, 2, Some(1), 3, 0, 12)
+}
+
 #[test]
 fn puts_one_on_another(rt: HostRuntime) -> Result<(), Fail> {
     let table = three_deep(rt.alloc()).ok_or("no table")?;
-    assert!(rt; has(&table, 0, None, 1, 8, 10));
-    assert!(rt; has(&table, 1, Some(0), 2, 8, 11));
-    assert!(rt; has(&table, 2, Some(1), 3, 0, 12));
+    assert!(rt; stand_three_deep(&table));
     Ok(())
+}
+
+fn leaves_the_newest(table: &mut Table<u32>) -> bool {
+    narrows(table) && has_mask(table, 0, 0) && has_mask(table, 1, 8) && frees(table, 0)
 }
 
 #[test]
 fn hand_stays_at_the_newest_alone(rt: HostRuntime) -> Result<(), Fail> {
     let mut table = three_deep(rt.alloc()).ok_or("no table")?;
-    assert!(rt; narrows(&mut table));
-    assert!(rt; has_mask(&table, 0, 0) && has_mask(&table, 1, 8));
-    assert!(rt; frees(&mut table, 0));
+    assert!(rt; leaves_the_newest(&mut table));
     Ok(())
+}
+
+// Whether a place is freed where another is the top, and two more where the hand is quiet.
+fn frees_places(table: &mut Table<u32>) -> bool {
+    gets_another_top(table, 3)
+        && narrows(table)
+        && frees(table, 1)
+        && are_live(table, [true, true, false])
+        && quiets(table, 3)
+        && frees(table, 2)
+}
+
+fn gives_them_out_again(table: &mut Table<u32>) -> bool {
+    has(table, 3, None, 1, 0, 13)
+        && has_free(table, PLACES - 1)
+        && put(table, 3, 14) == Some(0)
+        && is_top(table, 0)
 }
 
 #[test]
 fn freed_places_come_back(rt: HostRuntime) -> Result<(), Fail> {
     let mut table = three_deep(rt.alloc()).ok_or("no table")?;
-    assert!(rt; gets_another_top(&mut table, 3));
-    assert!(rt; narrows(&mut table) && frees(&mut table, 1));
-    assert!(rt; are_live(&table, [true, true, false]));
-    assert!(rt; quiets(&mut table, 3) && frees(&mut table, 2));
-    assert!(rt; has(&table, 3, None, 1, 0, 13));
-    assert!(rt; has_free(&table, PLACES - 1));
-    assert!(rt; put(&mut table, 3, 14) == Some(0));
-    assert!(rt; is_top(&table, 0));
+    assert!(rt; frees_places(&mut table) && gives_them_out_again(&mut table));
     Ok(())
 }
 

@@ -49,6 +49,19 @@ fn leads(from: Point, extent: Point, to: Point) -> bool {
         && traversal(to, from) == extent
 }
 
+// Whether each extent leads from the first point to the third; the laws are called, and say nothing here.
+fn all_lead(steps: &[(Point, Point, Point)]) -> bool {
+    for (from, extent, to) in steps {
+        if !leads(*from, *extent, *to) {
+            return false;
+        }
+        laws::inverse(*from, *extent);
+        laws::associative(*from, *extent, *to);
+        laws::unit(*from);
+    }
+    true
+}
+
 #[test]
 fn leads_from_point_to_point(rt: HostRuntime) {
     let steps = [
@@ -56,17 +69,27 @@ fn leads_from_point_to_point(rt: HostRuntime) {
         (at(2, 5), at(1, 3), at(3, 3)),
         (at(0, 0), at(4, 0), at(4, 0)),
     ];
-    for (from, extent, to) in steps {
-        assert!(rt; leads(from, extent, to), "from {from:?} over {extent:?}");
-        laws::inverse(from, extent);
-        laws::associative(from, extent, to);
-        laws::unit(from);
+    assert!(rt; all_lead(&steps));
+}
+
+fn are_far(steps: &[(Point, Point, Point)]) -> bool {
+    for (from, extent, capped) in steps {
+        if !is_far(*from, *extent, *capped) {
+            return false;
+        }
     }
+    true
+}
+
+// Whether this point is the last that isn't far, and stays what it is.
+fn is_last_near(near: Point) -> bool {
+    !near.is_far()
+        && at(MAX_COORD + 1, 0).is_far()
+        && Distance::of_point(near).point() == Some(near)
 }
 
 #[test]
 fn stops_at_the_greatest_coordinate(rt: HostRuntime) {
-    let near = at(MAX_COORD, MAX_COORD);
     let last = at(u32::MAX, u32::MAX);
     let far = [
         (at(MAX_COORD, 0), at(1, 0), at(MAX_COORD + 1, 0)),
@@ -74,14 +97,8 @@ fn stops_at_the_greatest_coordinate(rt: HostRuntime) {
         (at(1, u32::MAX), at(0, 1), at(1, u32::MAX)),
         (at(u32::MAX, 7), at(1, 3), last),
     ];
-    for (from, extent, capped) in far {
-        assert!(rt;
-            is_far(from, extent, capped),
-            "from {from:?} over {extent:?}"
-        );
-    }
-    assert!(rt; !near.is_far() && at(MAX_COORD + 1, 0).is_far());
-    assert_eq!(rt; Distance::of_point(near).point(), Some(near));
+    assert!(rt; are_far(&far));
+    assert!(rt; is_last_near(at(MAX_COORD, MAX_COORD)));
     assert_eq!(rt; traversal(at(1, 2), at(3, 4)), at(0, 2));
 }
 
@@ -215,17 +232,25 @@ fn keeps_ids(ids: Vec<u32>) -> bool {
         && ids.into_vec().len() == count
 }
 
+// No id in any of the four sets.
+fn no_hits(alloc: Global) -> Hits {
+    Hits {
+        touch: Ids::from_vec(Vec::new(alloc)),
+        inside: Ids::from_vec(Vec::new(alloc)),
+        overlap: Ids::from_vec(Vec::new(alloc)),
+        surround: Ids::from_vec(Vec::new(alloc)),
+    }
+}
+
+fn are_none(hits: &Hits) -> bool {
+    hits.touch.len() == 0 && hits.surround.len() == 0
+}
+
 #[test]
 fn lists_ids(rt: HostRuntime) -> Result<(), Fail> {
     let ids = vec![in rt.alloc(); 3u32, 4]?;
     assert!(rt; keeps_ids(ids));
-    let hits = Hits {
-        touch: Ids::from_vec(Vec::new(rt.alloc())),
-        inside: Ids::from_vec(Vec::new(rt.alloc())),
-        overlap: Ids::from_vec(Vec::new(rt.alloc())),
-        surround: Ids::from_vec(Vec::new(rt.alloc())),
-    };
-    assert_eq!(rt; hits.touch.len() + hits.surround.len(), 0);
+    assert!(rt; are_none(&no_hits(rt.alloc())));
     Ok(())
 }
 

@@ -120,62 +120,98 @@ fn takes<F: Folder>(alloc: Global, folder: &mut F, bytes: &[u8]) -> bool {
     took
 }
 
+// Whether the first file of a name is loaded, and none under a name that isn't there.
+fn loads_first_files(alloc: Global, folder: &mut MemFolder) -> bool {
+    loads(alloc, folder, "old", &Ok(b"12345"))
+        && loads(alloc, folder, "twice", &Ok(b"first"))
+        && loads(alloc, folder, "none", &Err(Stop::Failed))
+}
+
 #[test]
 fn loads_the_first_file_of_a_name(rt: HostRuntime) -> Result<(), Fail> {
     let mut folder = folder(rt.alloc(), &[])?;
-    for (name, want) in [
-        ("old", Ok(b"12345".as_slice())),
-        ("twice", Ok(b"first")),
-        ("none", Err(Stop::Failed)),
-    ] {
-        assert!(rt; loads(rt.alloc(), &mut folder, name, &want));
-    }
+    assert!(rt; loads_first_files(rt.alloc(), &mut folder));
     Ok(())
+}
+
+// Whether a file is saved under a name, and the others stay.
+fn saves_under(alloc: Global, folder: &mut MemFolder, name: &str) -> bool {
+    saves(alloc, folder, name, true)
+        && holds(folder, name, Some(b"new bytes"))
+        && holds(folder, "twice", Some(b"first"))
 }
 
 #[test]
 fn saves_under_an_old_and_a_new_name(rt: HostRuntime) -> Result<(), Fail> {
     let mut folder = folder(rt.alloc(), &[])?;
     for name in ["old", "new"] {
-        assert!(rt; saves(rt.alloc(), &mut folder, name, true));
-        assert!(rt; holds(&folder, name, Some(b"new bytes")));
-        assert!(rt; holds(&folder, "twice", Some(b"first")));
+        assert!(rt; saves_under(rt.alloc(), &mut folder, name));
     }
     Ok(())
 }
 
+// Whether a load and then a save go so, and leave these bytes.
+fn goes_so(
+    alloc: Global,
+    folder: &mut MemFolder,
+    first: &Result<&[u8], Stop>,
+    second: bool,
+    left: &[u8],
+) -> bool {
+    loads(alloc, folder, "old", first)
+        && saves(alloc, folder, "old", second)
+        && holds(folder, "old", Some(left))
+}
+
+// The same in a folder whose call with this number fails.
+fn fails_so(
+    alloc: Global,
+    failing: u64,
+    first: &Result<&[u8], Stop>,
+    second: bool,
+    left: &[u8],
+) -> bool {
+    match folder(alloc, &[failing]) {
+        Ok(mut folder) => goes_so(alloc, &mut folder, first, second, left),
+        Err(_) => false,
+    }
+}
+
 /// The calls of a load and then a save are a fetch, a create and a keep. What stood under a name stays until it is kept.
 #[test]
-fn fails_calls_by_one_numbering(rt: HostRuntime) -> Result<(), Fail> {
-    for (failing, first, second, left) in [
-        (1, Err(Stop::Failed), true, b"new bytes".as_slice()),
-        (2, Ok(b"12345".as_slice()), false, b"12345"),
-        (3, Ok(b"12345".as_slice()), false, b"12345"),
-        (4, Ok(b"12345".as_slice()), true, b"new bytes"),
-    ] {
-        let mut folder = folder(rt.alloc(), &[failing])?;
-        assert!(rt; loads(rt.alloc(), &mut folder, "old", &first));
-        assert!(rt; saves(rt.alloc(), &mut folder, "old", second));
-        assert!(rt; holds(&folder, "old", Some(left)));
+fn fails_calls_by_one_numbering(rt: HostRuntime) {
+    let all = Ok(b"12345".as_slice());
+    assert!(rt; fails_so(rt.alloc(), 1, &Err(Stop::Failed), true, b"new bytes"));
+    assert!(rt; fails_so(rt.alloc(), 2, &all, false, b"12345"));
+    assert!(rt; fails_so(rt.alloc(), 3, &all, false, b"12345"));
+    assert!(rt; fails_so(rt.alloc(), 4, &all, true, b"new bytes"));
+}
+
+// Whether a sink takes as many bytes as its room has, and not one more.
+fn keeps_to_a_room(alloc: Global, folder: &mut MemFolder) -> bool {
+    match vec![in alloc; 7u8; SINK_ROOM + 1] {
+        Ok(bytes) => takes(alloc, folder, &bytes[1..]) && !takes(alloc, folder, bytes.as_slice()),
+        Err(_) => false,
     }
-    Ok(())
 }
 
 #[test]
 fn gives_sinks_a_room(rt: HostRuntime) -> Result<(), Fail> {
     let mut folder = folder(rt.alloc(), &[])?;
-    let bytes = vec![in rt.alloc(); 7u8; SINK_ROOM + 1]?;
-    assert!(rt; takes(rt.alloc(), &mut folder, &bytes[1..]));
-    assert!(rt; !takes(rt.alloc(), &mut folder, bytes.as_slice()));
+    assert!(rt; keeps_to_a_room(rt.alloc(), &mut folder));
     Ok(())
+}
+
+fn loads_surely(alloc: Global, folder: &mut SureFolder) -> bool {
+    loads(alloc, folder, "none", &Ok(b""))
+        && loads(alloc, folder, "old", &Ok(b"12345"))
+        && tells(folder, "none", None)
 }
 
 #[test]
 fn a_sure_folder_loads_a_missing_name_as_no_bytes(rt: HostRuntime) -> Result<(), Fail> {
     let mut folder = SureFolder::new(files(rt.alloc())?);
-    assert!(rt; loads(rt.alloc(), &mut folder, "none", &Ok(b"")));
-    assert!(rt; loads(rt.alloc(), &mut folder, "old", &Ok(b"12345")));
-    assert!(rt; tells(&folder, "none", None));
+    assert!(rt; loads_surely(rt.alloc(), &mut folder));
     Ok(())
 }
 
@@ -183,13 +219,24 @@ fn keeps_surely(alloc: Global, folder: &mut SureFolder, name: &str, bytes: &[u8]
     save_surely(alloc, folder, name, bytes, b"!").is_ok()
 }
 
+// Whether what is kept is told until more than a room is put in.
+fn falls_silent(alloc: Global, folder: &mut SureFolder, bytes: &[u8]) -> bool {
+    keeps_surely(alloc, folder, "old", b"abc")
+        && tells(folder, "old", Some(b"abc!"))
+        && keeps_surely(alloc, folder, "big", bytes)
+        && tells(folder, "old", None)
+}
+
+fn falls_silent_past_a_room(alloc: Global, folder: &mut SureFolder) -> bool {
+    match vec![in alloc; 7u8; SINK_ROOM] {
+        Ok(bytes) => falls_silent(alloc, folder, bytes.as_slice()),
+        Err(_) => false,
+    }
+}
+
 #[test]
 fn a_sure_folder_falls_silent_past_a_room(rt: HostRuntime) -> Result<(), Fail> {
     let mut folder = SureFolder::new(files(rt.alloc())?);
-    let bytes = vec![in rt.alloc(); 7u8; SINK_ROOM]?;
-    assert!(rt; keeps_surely(rt.alloc(), &mut folder, "old", b"abc"));
-    assert!(rt; tells(&folder, "old", Some(b"abc!")));
-    assert!(rt; keeps_surely(rt.alloc(), &mut folder, "big", bytes.as_slice()));
-    assert!(rt; tells(&folder, "old", None));
+    assert!(rt; falls_silent_past_a_room(rt.alloc(), &mut folder));
     Ok(())
 }
