@@ -5,3 +5,4 @@ mod Ending
 mod ReadLemmas
 mod HoldingLemmas
 mod SessionLemmas
+mod SeatLemmas

@@ -4,3 +4,4 @@ pub mod Running
 pub mod Rules
 pub mod Reading
 pub mod Holding
+pub mod Seats
