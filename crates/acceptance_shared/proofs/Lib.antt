@@ -1,1 +1,2 @@
 mod SharingLemmas
+mod PlanLemmas

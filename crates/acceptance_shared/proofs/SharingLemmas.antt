@@ -1,5 +1,5 @@
 -- The desks of a new buffer.
-use Rattle.std.proofs.Common.{◌≡◌, ℕ, ◌<◌, List, [], ◌∷◌, ◌++◌, length, refl, ap, subst, arith, length-append}
+use Rattle.std.proofs.Common.{◌≡◌, ℕ, ◌<◌, List, [], ◌++◌, refl, subst, arith, length-append}
 use Rattle.std.proofs.Math.ListN.{get_or-append}
 use Rattle.atomic_table.specs.declared.badge.Badge.{Badge}
 use Rattle.turn_table.specs.Views.{part}

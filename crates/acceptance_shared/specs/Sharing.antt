@@ -1,5 +1,5 @@
 -- Desks of one shared buffer, as the tests pass them on.
-use Rattle.std.specs.Prelude.{◌≡◌, ℕ, ◌<◌, List, length, slice_index_or}
+use Rattle.std.specs.Prelude.{ℕ, ◌<◌, List, length, slice_index_or}
 use Rattle.atomic_table.specs.declared.badge.Badge.{Badge}
 use Rattle.shared_buffer.specs.Tokens.{Opening, Known, IsDeskOf}
 

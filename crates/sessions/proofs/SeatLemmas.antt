@@ -1,21 +1,17 @@
 -- Sessions at desks of their own, run and gathered in again.
-use Rattle.std.proofs.Common.{◌≡◌, ℕ, suc, zero, ◌+◌, ◌≤◌, ◌<◌, List, [], ◌∷◌, ◌++◌, length, map, take, drop, true, Option, None, Some, refl, sym, ◌∙◌, ap, subst, arith, append_assoc, append-nil}
-use Rattle.std.specs.Prelude.{vec_len, slice_index_or, MatchOption, MatchResult, IfOk, IfErr}
+use Rattle.std.proofs.Common.{◌≡◌, ℕ, suc, zero, ◌+◌, ◌≤◌, ◌<◌, List, [], ◌∷◌, ◌++◌, length, map, take, drop, Option, None, Some, refl, sym, ◌∙◌, ap, subst, arith, append_assoc, append-nil}
+use Rattle.std.specs.Prelude.{slice_index_or, MatchOption, MatchResult, IfOk, IfErr}
 use Rattle.std.specs.List.{AllByRecursion}
 use Rattle.std.proofs.lemmas.List.{length-map, take_all, drop_all}
 use Rattle.std.specs.declared.result.Result.{Result}
 use Rattle.std.specs.declared.result.Result.TheVariants.{Ok, Err}
 use mathlib.Core.List.{IsPrefix}
 use Rattle.atomic_table.specs.declared.badge.Badge.{Badge}
-use Rattle.atomic_table.specs.Seated.{TableId}
 use Rattle.points.specs.Text.{text_of}
 use Rattle.machine.specs.declared.command.Command.{Command}
-use Rattle.machine.specs.declared.command.Script.{Script}
 use Rattle.machine.specs.declared.reply.Reply.{Reply}
-use Rattle.machine.specs.declared.reply.Transcript.{Transcript}
-use Rattle.machine.specs.Machine.{opened}
 use Rattle.machine.specs.Answers.{Matches}
-use Rattle.machine.specs.Lawful.{patterns_of, IsLawful}
+use Rattle.machine.specs.Lawful.{patterns_of}
 use Rattle.turn_table.specs.declared.view.Part.{Part}
 use Rattle.turn_table.specs.declared.view.Role.{Role}
 use Rattle.turn_table.specs.Calls.{Has, Turned, Joined}
@@ -23,18 +19,16 @@ use Rattle.turn_table.specs.Meaning.{MayFollow}
 use Rattle.turn_table.specs.History.{calls_under, AreCalled}
 use Rattle.turn_table.specs.Openings.{new_desk, AreDealt}
 use Rattle.turn_table.specs.Steps.{parts_of}
-use Rattle.turn_table.specs.Tokens.{IsDesk}
-use Rattle.turn_table.specs.Views.{view, desk, part, AllMine, AreApart, Mine}
+use Rattle.turn_table.specs.Views.{desk, part, AllMine, AreApart, Mine}
 use Rattle.turn_table.proofs.HistoryLemmas.{prefix_self, prefix_trans}
 use Rattle.shared_buffer.specs.Entries.{Entry, Meets}
 use Rattle.shared_buffer.specs.Tokens.{Line, Known, Opening, rules, IsDeskOf, IsInformed, IsFinished}
 use Rattle.sessions.specs.declared.plan.Plan.{Plan}
 use Rattle.sessions.specs.declared.seat.Seat.{Seat}
-use Rattle.sessions.specs.Gathered.{IsPlayed, ArePlayed, IsGathered}
-use Rattle.sessions.specs.Rules.{can_answer_all}
+use Rattle.sessions.specs.Gathered.{ArePlayed}
 use Rattle.sessions.specs.Running.{IsRun}
-use Rattle.sessions.specs.Seats.{commands_of, hands_wanted, CanBeAnswered, IsSeated, AreSeated, CanRun, IsReady, AreReady, HasEnded, WasRun, HasRun, HaveRun, Went, AllWent, IsGatheredIn, IsLawfulRun}
-use Rattle.sessions.proofs.Playing.{Did, own_is}
+use Rattle.sessions.specs.Seats.{commands_of, CanBeAnswered, AreSeated, CanRun, IsReady, AreReady, HasEnded, WasRun, HasRun, HaveRun, AllWent, IsGatheredIn, IsLawfulRun}
+use Rattle.sessions.proofs.Playing.{own_is}
 use Rattle.sessions.proofs.Ending.{did_from, run_is_played}
 use Rattle.sessions.proofs.Gathering.{gathered}
 
@@ -104,9 +98,10 @@ module _ (o : Opening) where
   new_from n [] each = tt
   new_from n (d ∷ ds) each =
       let here = each 0 d (omega arith) in
-      let at : n + 0 ≡ n = omega arith in
-      ((here.0, subst (λ i. d.views ≡ new_desk i ∷ []) at here.1),
-        new_from (n + 1) ds (λ k e low. let more = each (suc k) e (omega arith) in let at : n + suc k ≡ n + 1 + k = omega arith in (more.0, subst (λ i. (slice_index_or ds k e).views ≡ new_desk i ∷ []) at more.1)))
+      let at : n + 0 ≡ n = omega arith in (
+        (here.0, subst (λ i. d.views ≡ new_desk i ∷ []) at here.1),
+        new_from (n + 1) ds (λ k e low. let more = each (suc k) e (omega arith) in let at : n + suc k ≡ n + 1 + k = omega arith in (more.0, subst (λ i. (slice_index_or ds k e).views ≡ new_desk i ∷ []) at more.1)),
+      )
 
   pub dealt_new : (count : ℕ) (desks : List (Badge Known)) → AreDealt o.table new_desk count desks → AreNew 0 desks
   dealt_new count desks dealt = new_from 0 desks (λ k d low. let below : k < count = subst (λ m. k < m) dealt.len low in let at : k ≡ 0 + k = omega arith in (dealt.tables k d below, subst (λ i. (slice_index_or desks k d).views ≡ new_desk i ∷ []) at (dealt.views k d below)))
@@ -190,11 +185,20 @@ module _ (o : Opening) where
       let one = of 0 cs here.0 in
       let below : 0 < o.desks = omega (arith, low) in
       let p = part_of 0 cs rs one.0 below one.2 in
-      let d = did_from o 0 cs rs one.0 below one.2 [] in
-      (one.0, one.1, subst (λ l. Gathering (cs ∷ later) rest l one.0) (sym rss_is) (record {
-        next = 1; later = later; parts = p.0 ∷ []; low = omega (arith, low); have = here.1; role = p.1; informed = d.informed;
-        onward = λ more qs h begun went. (record { last = one.0; run = one.2; role = p.1; seen = begun }, went);
-      }))
+      let d = did_from o 0 cs rs one.0 below one.2 [] in (
+        one.0,
+        one.1,
+        subst (λ l. Gathering (cs ∷ later) rest l one.0) (sym rss_is) (record {
+          next = 1;
+          later = later;
+          parts = p.0 ∷ [];
+          low = omega (arith, low);
+          have = here.1;
+          role = p.1;
+          informed = d.informed;
+          onward = λ more qs h begun went. (record { last = one.0; run = one.2; role = p.1; seen = begun }, went);
+        }),
+      )
 
   one_gathered : (css : List (List Command)) (rest : List Seat) (s : Seat) (rs : List Reply) (rss : List (List Reply)) (v x w : Known) → (g : Gathering css (s ∷ rest) rss v) → (later : List (List Command)) → g.later ≡ later
       → ((n : ℕ) (cs : List Command) → HasRun o n cs s → IsRun o cs rs (new_desk n) x) → Joined (rules o) (MayFollow (rules o) Meets) o.start o.desks v x w → Gathering css rest (rss ++ rs ∷ []) w

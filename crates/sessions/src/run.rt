@@ -39,8 +39,7 @@ pub fn run_sessions<B: PlainBuffer + Send, R: Threads + Wait + Sync>(
     ensures { IfOk result (λ r. IsLawfulRun B.version (B.state buffer) plans.items r.sessions.items r.text r.count) }
 {
     let desks = plans.len() as u32;
-    let (started, hands) =
-        SharedBuffer::start_with_hands(alloc, buffer, desks, MAX_HANDS as u32)?;
+    let (started, hands) = SharedBuffer::start_with_hands(alloc, buffer, desks, MAX_HANDS as u32)?;
     let Started { buffer, desks } = started;
     let mut seats = seat_all(alloc, desks, hands, plans)?;
     run_seats(rt, alloc, &buffer, seats.as_mut_slice());

@@ -1,4 +1,4 @@
-use Rattle.std.proofs.Common.{rules, map, length, sym, subst, ap, ◌≡◌, ◌∙◌, arith, List}
+use Rattle.std.proofs.Common.{rules, map, length, sym, subst, ap, ◌∙◌, arith, List}
 use Rattle.std.specs.List.{AllByRecursion}
 use Rattle.std.proofs.lemmas.List.{length-map}
 use Rattle.sessions.specs.declared.seat.Seat.{Seat}

@@ -1,4 +1,4 @@
-use Rattle.std.proofs.Common.{rules, ◌∙◌, sym}
+use Rattle.std.proofs.Common.{rules}
 use Rattle.sessions.proofs.SeatLemmas.{first_gathered, next_gathered, end_gathered, ended_run}
 use Rattle.sessions.proofs.seating.gather.Goals as goal
 
