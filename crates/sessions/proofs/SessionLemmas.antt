@@ -1,5 +1,5 @@
 -- A session that is under way: the commands that it answered, and what is left.
-use Rattle.std.proofs.Common.{◌≡◌, ℕ, List, [], ◌∷◌, ◌++◌, length, map, drop, Bool, true, false, cond, Option, refl, sym, ◌∙◌, ap, subst, arith, append_assoc, append-nil}
+use Rattle.std.proofs.Common.{◌≡◌, ℕ, ◌≤◌, List, [], ◌∷◌, ◌++◌, length, map, drop, Bool, true, false, cond, Option, refl, sym, ◌∙◌, ap, subst, arith, append_assoc, append-nil}
 use Rattle.std.specs.Prelude.{◌==◌}
 use Rattle.std.specs.List.{list_any, list_all}
 use Rattle.std.proofs.lemmas.Bool.{false≢true, and_parts}
@@ -13,9 +13,11 @@ use Rattle.machine.specs.Lawful.{patterns_in}
 use Rattle.machine.specs.Plain.{Kept, kept_text}
 use Rattle.turn_table.specs.Calls.{Has, Turned}
 use Rattle.turn_table.specs.Tokens.{IsDesk}
-use Rattle.shared_buffer.specs.Entries.{is_plain}
-use Rattle.shared_buffer.specs.Tokens.{Known, Opening, Called}
-use Rattle.sessions.specs.Running.{Doing, without_first, IsDone, IsAnswered, AreDone, IsRun}
+use Rattle.shared_buffer.specs.declared.shared.Squash.{Squash}
+use Rattle.shared_buffer.specs.declared.shared.Squash.TheVariants as squash
+use Rattle.shared_buffer.specs.Entries.{is_plain, squashed}
+use Rattle.shared_buffer.specs.Tokens.{Known, Opening, Called, IsEntered}
+use Rattle.sessions.specs.Running.{Doing, without_first, IsDone, IsTakenAs, IsAnswered, AreDone, IsRun}
 use Rattle.sessions.specs.Reading.{answer_in}
 use Rattle.sessions.proofs.ReadLemmas.{own_forms, own_asked}
 use Rattle.sessions.specs.Rules.{is_own_read, without_number, numbers_after, can_answer, can_answer_all}
@@ -115,6 +117,22 @@ module _ (o : Opening) where
       turned_same (IsAnswered o c r kept kept) views views refl
       (λ v told. subst (λ x. IsDone o told x r (record { knows = v; kept = kept }) (record { knows = v; kept = kept })) (sym is)
       (subst (λ x. IsDone o told (command.Read k reads) x (record { knows = v; kept = kept }) (record { knows = v; kept = kept })) (sym says) (read_done told k reads kept v own)))
+
+  pub take_answered : (c : Command) (k version : ℕ) (before after : List Kept) (old new : List Known) → c ≡ command.Take k → Turned (IsTakenAs o version k before after) old new → Turned (IsAnswered o c (reply.Taken version) before after) old new
+  take_answered c k version before after old new is turned =
+      turned_as (IsTakenAs o version k before after) (IsAnswered o c (reply.Taken version) before after) old new
+      (λ v w t told. subst (λ x. IsDone o told x (reply.Taken version) (record { knows = v; kept = before }) (record { knows = w; kept = after })) (sym is)
+      (record { text = t.text; version = version; tells = refl; took = t.took; kept = t.kept })) turned
+
+  pub release_answered : (c : Command) (k : ℕ) (before after : List Kept) (views : List Known) → c ≡ command.Release k → after ≡ without_first k before → Turned (IsAnswered o c reply.Nothing before after) views views
+  release_answered c k before after views is kept =
+      turned_same (IsAnswered o c reply.Nothing before after) views views refl
+      (λ v told. subst (λ x. IsDone o told x reply.Nothing (record { knows = v; kept = before }) (record { knows = v; kept = after })) (sym is) (record { tells = refl; knows = refl; kept = kept }))
+
+  pub squash_answered : (c : Command) (s : Squash) (kept : List Kept) (old new : List Known) → c ≡ command.Squash → ((depth : ℕ) → s ≡ squash.Done depth → (depth ≤ 2) × Turned (IsEntered o (squashed depth)) old new) → Turned (IsAnswered o c reply.Nothing kept kept) old new
+  squash_answered c (squash.Done depth) kept old new is entered =
+      turned_as (IsEntered o (squashed depth)) (IsAnswered o c reply.Nothing kept kept) old new
+      (λ v w e told. subst (λ x. IsDone o told x reply.Nothing (record { knows = v; kept = kept }) (record { knows = w; kept = kept })) (sym is) (record { tells = refl; stays = e.stays; kept = refl })) (entered depth refl).1
 
   -- ---- a session under way, from the one view of its desk
 
