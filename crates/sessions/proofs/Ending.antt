@@ -1,5 +1,5 @@
 -- A session's run, as any history has it that goes on from what its desk has seen.
-use Rattle.std.proofs.Common.{◌≡◌, ℕ, ◌<◌, List, [], ◌∷◌, map, Option, refl, sym, ◌∙◌, ap}
+use Rattle.std.proofs.Common.{◌≡◌, ℕ, ◌<◌, List, [], ◌∷◌, ◌++◌, map, Option, refl, sym, ◌∙◌, ap}
 use Rattle.std.specs.List.{AllByRecursion}
 use Rattle.machine.specs.declared.command.Command.{Command}
 use Rattle.machine.specs.declared.reply.Reply.{Reply}
@@ -24,14 +24,14 @@ module _ (o : Opening) where
   new_informed n below = record { legal = tt; parts = ((refl, tt), (refl, tt)); numbered = (below, tt); called = tt; whole = λ all. refl }
 
   -- what a session did from the desk n
-  pub did_from : (n : ℕ) (cs : List Command) (rs : List Reply) (w : Known) → n < o.desks → (run : IsRun o cs rs (new_desk n) w) (told : List (Option Matches)) → Did o n told 1 cs rs [] (record { knows = new_desk n; kept = [] }) (record { knows = w; kept = (run told).0 })
-  did_from n cs rs w below run told = did o n told 1 cs rs [] (record { knows = new_desk n; kept = [] }) (record { knows = w; kept = (run told).0 }) refl (new_informed n below) (run told).1
+  pub did_from : (n : ℕ) (told : List (Option Matches)) (cs : List Command) (rs : List Reply) (w : Known) → n < o.desks → (run : IsRun o told cs rs (new_desk n) w) (more : List (Option Matches)) → Did o n (told ++ more) 1 cs rs [] (record { knows = new_desk n; kept = [] }) (record { knows = w; kept = (run more).0 })
+  did_from n told cs rs w below run more = did o n (told ++ more) 1 cs rs [] (record { knows = new_desk n; kept = [] }) (record { knows = w; kept = (run more).0 }) refl (new_informed n below) (run more).1
 
 pub run_is_played : RunIsPlayed
-run_is_played o n cs rs w told h below run begun same =
-    let d : Did o n told 1 cs rs [] (record { knows = new_desk n; kept = [] }) (record { knows = w; kept = (run told).0 }) = did_from o n cs rs w below run told in
+run_is_played o n told cs rs w more h below run begun same =
+    let d : Did o n (told ++ more) 1 cs rs [] (record { knows = new_desk n; kept = [] }) (record { knows = w; kept = (run more).0 }) = did_from o n told cs rs w below run more in
     let own : calls_under (rules o) n h ≡ d.mine = same ∙ sym (own_is o n w d.mine d.role d.informed) in record {
       forms = d.forms;
       calls = ap (map told_of) own ∙ d.calls;
-      fronts = all_to (HasFront o n w.seen) (HasFront o n h) (takings told 1 [] cs rs) (λ t f. record { front = f.front; begun = prefix_trans f.front w.seen h f.begun begun; earlier = f.earlier; shown = f.shown; answers = f.answers }) d.fronts;
+      fronts = all_to (HasFront o n w.seen) (HasFront o n h) (takings (told ++ more) 1 [] cs rs) (λ t f. record { front = f.front; begun = prefix_trans f.front w.seen h f.begun begun; earlier = f.earlier; shown = f.shown; answers = f.answers }) d.fronts;
     }

@@ -22,7 +22,7 @@ use Rattle.turn_table.proofs.HistoryLemmas.{prefix_self, prefix_trans, squeezed}
 use Rattle.shared_buffer.specs.Entries.{Entry, called, handed, given_back, taken, finished, squashed, shaped, is_plain}
 use Rattle.shared_buffer.specs.Tokens.{Line, Known, Opening, rules, behind, IsInformed, IsTaken}
 use Rattle.sessions.specs.Gathered.{with_told, written, with_called, calls_answered, told_of, HasFront}
-use Rattle.sessions.specs.Running.{Doing, without_first, IsPlay, IsTake, IsRead, IsRelease, IsSquash, IsDone, AreDone}
+use Rattle.sessions.specs.Running.{Doing, without_first, IsPlay, IsTake, IsRead, IsSend, IsRelease, IsSquash, IsDone, AreDone}
 
 -- ---- lists
 
@@ -201,6 +201,21 @@ module _ (o : Opening) (n : ℕ) where
         takes = λ h i left cs rs rest begun asked fronts. fronts;
       })
 
+  send_step : (told : List (Option Matches)) (k : ℕ) (reads : List _) (r : Reply) (m : List Line) (v u : Doing) → v.knows.role ≡ desk (part n m ∷ []) → IsInformed o v.knows → IsSend o told k reads r v u → Step told (command.Send k reads) r m v u
+  send_step told k reads r m v u role informed p =
+      subst (λ x. Step told (command.Send k reads) x m v u) (sym p.tells) (record {
+        mine = m;
+        role = ap (λ (x : Known). x.role) p.knows ∙ role;
+        informed = subst (IsInformed o) (sym p.knows) informed;
+        begun = subst (λ (x : Known). IsPrefix v.knows.seen x.seen) (sym p.knows) (prefix_self v.knows.seen);
+        calls = sym (append-nil (map told_of m));
+        form = p.forms;
+        numbers = sym (append-nil (map number_in (written m)));
+        reads = λ j. read_by (kept_text j v.kept) told reads p.answers (k == j) (λ same. subst (λ i. AllByRecursion (IsAsked (kept_text i v.kept)) (asked_in told reads p.answers)) (eqb-true k j same) p.right);
+        keeps = λ j ended. ap (kept_text j) p.kept ∙ ap text_kept (found_without j v.kept k ended);
+        takes = λ h i left cs rs rest begun asked fronts. fronts;
+      })
+
   squash_step : (told : List (Option Matches)) (r : Reply) (m : List Line) (v u : Doing) → v.knows.role ≡ desk (part n m ∷ []) → IsSquash o r v u → Step told command.Squash r m v u
   squash_step told r m v u role p =
       subst (λ x. Step told command.Squash x m v u) (sym p.tells) (record {
@@ -221,7 +236,7 @@ module _ (o : Opening) (n : ℕ) where
   step_of told (command.Read k reads) r m v u role informed done = read_step told k reads r m v u role informed done
   step_of told (command.Release k) r m v u role informed done = release_step told k r m v u role informed done
   step_of told command.Squash r m v u role informed done = squash_step told r m v u role done
-  step_of told (command.Send k reads) r m v u role informed done = absurd done
+  step_of told (command.Send k reads) r m v u role informed done = send_step told k reads r m v u role informed done
   step_of told c r m v u role informed done = play_step told c r m v u role done
 
   -- these commands were answered in turn; before them the desk had made the calls m

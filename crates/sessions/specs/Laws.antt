@@ -1,5 +1,5 @@
 -- The law of sessions that share a buffer.
-use Rattle.std.specs.Prelude.{◌≡◌, ℕ, ◌<◌, List, Option}
+use Rattle.std.specs.Prelude.{◌≡◌, ℕ, ◌<◌, ◌++◌, List, Option}
 use mathlib.Core.List.{IsPrefix}
 use Rattle.machine.specs.declared.command.Command.{Command}
 use Rattle.machine.specs.declared.command.Script.{Script}
@@ -19,5 +19,5 @@ GatheredIsLawful = (o : Opening) (script : Script) (opening : List ℕ) (told : 
 
 -- a session that was run from the desk n is played in each history that goes on from what its desk has seen, with no further call of that desk
 abbrev pub RunIsPlayed : Type 0
-RunIsPlayed = (o : Opening) (n : ℕ) (cs : List Command) (rs : List Reply) (w : Known) (told : List (Option Matches)) (h : List Line) → n < o.desks → IsRun o cs rs (new_desk n) w
-    → IsPrefix w.seen h → calls_under (rules o) n h ≡ calls_under (rules o) n w.seen → IsPlayed o told n cs rs h
+RunIsPlayed = (o : Opening) (n : ℕ) (told : List (Option Matches)) (cs : List Command) (rs : List Reply) (w : Known) (more : List (Option Matches)) (h : List Line) → n < o.desks → IsRun o told cs rs (new_desk n) w
+    → IsPrefix w.seen h → calls_under (rules o) n h ≡ calls_under (rules o) n w.seen → IsPlayed o (told ++ more) n cs rs h

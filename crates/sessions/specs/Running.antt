@@ -1,5 +1,5 @@
 -- What one session does from its desk, command by command.
-use Rattle.std.specs.Prelude.{◌≡◌, ℕ, ◌==◌, List, [], ◌∷◌, drop, true, false, nat_lt, if◌then◌else◌, Option}
+use Rattle.std.specs.Prelude.{◌≡◌, ℕ, ◌==◌, List, [], ◌∷◌, ◌++◌, drop, true, false, nat_lt, if◌then◌else◌, Option}
 use Rattle.std.specs.List.{AllByRecursion}
 use Rattle.points.specs.declared.limits.TheConstants.{LAST}
 use Rattle.machine.specs.declared.command.Command.{Command}
@@ -63,6 +63,15 @@ module _ (o : Opening) where
     pub knows : w.knows ≡ v.knows
     pub kept : w.kept ≡ without_first k v.kept
 
+  -- the snapshot with the number k was read, and given up
+  pub record IsSend (told : List (Option Matches)) (k : ℕ) (reads : List Read) (r : Reply) (v w : Doing) : Type 0 where
+    pub answers : List ReadAnswer
+    pub tells : r ≡ reply.Answered answers
+    pub forms : answers_have_forms reads answers ≡ true
+    pub right : AllByRecursion (IsAsked (kept_text k v.kept)) (asked_in told reads answers)
+    pub knows : w.knows ≡ v.knows
+    pub kept : w.kept ≡ without_first k v.kept
+
   -- the layers were put together
   pub record IsSquash (r : Reply) (v w : Doing) : Type 0 where
     pub tells : r ≡ reply.Nothing
@@ -75,12 +84,13 @@ module _ (o : Opening) where
   IsDone told (command.Read k reads) r v w = IsRead told k reads r v w
   IsDone told (command.Release k) r v w = IsRelease k r v w
   IsDone told command.Squash r v w = IsSquash r v w
-  IsDone told (command.Send k reads) r v w = ⊥
+  IsDone told (command.Send k reads) r v w = IsSend told k reads r v w
   IsDone told c r v w = IsPlay c r v w
 
-  -- so, whatever hits are told, while the snapshots went from these to those and what the desk knows from v to w
-  abbrev pub IsAnswered : Command → Reply → List Kept → List Kept → Known → Known → Type 0
-  IsAnswered c r before after v w = (told : List (Option Matches)) → IsDone told c r (record { knows = v; kept = before }) (record { knows = w; kept = after })
+  -- So, while the snapshots went from these to those and what the desk knows from v to w. What was told of the next matchers is `told` before it and `left` behind it, whatever
+  -- is told of those behind them
+  abbrev pub IsAnswered : List (Option Matches) → List (Option Matches) → Command → Reply → List Kept → List Kept → Known → Known → Type 0
+  IsAnswered told left c r before after v w = (more : List (Option Matches)) → IsDone (told ++ more) c r (record { knows = v; kept = before }) (record { knows = w; kept = after }) × (drop (patterns_in c) (told ++ more) ≡ left ++ more)
 
   -- so of these commands in turn
   abbrev pub AreDone : List (Option Matches) → List Command → List Reply → Doing → Doing → Type 0
@@ -89,6 +99,6 @@ module _ (o : Opening) where
   AreDone told (c ∷ cs) [] v w = ⊥
   AreDone told (c ∷ cs) (r ∷ rs) v w = (u : Doing) × IsDone told c r v u × AreDone (drop (patterns_in c) told) cs rs u w
 
-  -- The commands of a session were answered by these replies, whatever hits are told of patterns, while what the desk knows went from v to w
-  abbrev pub IsRun : List Command → List Reply → Known → Known → Type 0
-  IsRun cs rs v w = (told : List (Option Matches)) → (kept : List Kept) × AreDone told cs rs (record { knows = v; kept = [] }) (record { knows = w; kept = kept })
+  -- The commands of a session were answered by these replies, while what the desk knows went from v to w. These hits are told of its patterns, whatever is told of those behind them
+  abbrev pub IsRun : List (Option Matches) → List Command → List Reply → Known → Known → Type 0
+  IsRun told cs rs v w = (more : List (Option Matches)) → (kept : List Kept) × AreDone (told ++ more) cs rs (record { knows = v; kept = [] }) (record { knows = w; kept = kept })

@@ -1,27 +1,27 @@
 //! Desks and hands are dealt to sessions, and gathered in again.
 ghost use Rattle.std.specs.Prelude.{◌≡◌, ◌≤◌, ◌+◌, ◌<◌, ◌∷◌, [], List, vec_len, length, IfOk, OnOk};
 ghost use Rattle.std.specs.List.{AllByRecursion};
-ghost use Rattle.machine.specs.declared.command.Command.{Command as Asked};
 ghost use Rattle.turn_table.specs.Calls.{Has};
 ghost use Rattle.shared_buffer.specs.Tokens.{IsDeskOf};
-ghost use Rattle.sessions.specs.Seats.{AreSeated, hands_wanted, HasEnded, HaveRun, IsGatheredIn};
+ghost use Rattle.sessions.specs.Seats.{AreSeated, hands_wanted, HasEnded, HaveRun, IsGatheredIn, Work};
 
 use crate::holding::SpareHand;
 use crate::plan::Plan;
 use crate::refusal::RunRefusal;
 use crate::seat::Seat;
 use machine::{Reply, Sequence};
+use outer::Matcher;
 use points::NoMemory;
 use shared_buffer::{Desk, Hand, PlainBuffer, SharedBuffer};
 use std::alloc::Global;
 
 // Seats each session at the desk of its place, with the hands that its plan wants. Hands that are left are spent.
-pub(crate) fn seat_all(
+pub(crate) fn seat_all<M: Drop>(
     alloc: Global,
     desks: Vec<Desk>,
     hands: Vec<Hand>,
-    plans: Vec<Plan>,
-) -> Result<Vec<Seat>, NoMemory>
+    plans: Vec<Plan<M>>,
+) -> Result<Vec<Seat<M>>, NoMemory>
     requires desks { vec_len desks ≡ vec_len plans }
     requires hands { hands_wanted plans.items ≤ vec_len hands }
     ensures { IfOk result (λ seats. AreSeated plans.items desks.items seats.items) }
@@ -39,7 +39,11 @@ pub(crate) fn seat_all(
 }
 
 // Seats one session.
-fn seat_one(spare: &mut Vec<SpareHand>, desk: Desk, plan: Plan) -> Result<Seat, NoMemory>
+fn seat_one<M: Drop>(
+    spare: &mut Vec<SpareHand>,
+    desk: Desk,
+    plan: Plan<M>,
+) -> Result<Seat<M>, NoMemory>
     requires hands { plan.hands ≤ vec_len spare.old }
     ensures seat { IfOk result (λ seat. AreSeated (plan ∷ []) (desk ∷ []) (seat ∷ [])) }
     ensures rest { OnOk result (vec_len spare.new + plan.hands ≡ vec_len spare.old) }
@@ -49,6 +53,7 @@ fn seat_one(spare: &mut Vec<SpareHand>, desk: Desk, plan: Plan) -> Result<Seat, 
         desk,
         hands,
         commands: plan.commands,
+        matchers: plan.matchers,
         ended: None,
     })
 }
@@ -78,15 +83,15 @@ fn retire_all(mut hands: Vec<Hand>) {
 
 // Ends all desks into the first, and gathers the replies of the sessions. An `Err` is that of the first session without
 // replies, or want of memory.
-pub(crate) fn gather<B: PlainBuffer + Send>(
+pub(crate) fn gather<B: PlainBuffer + Send, M: Matcher>(
     alloc: Global,
     buffer: &SharedBuffer<B>,
-    seats: Vec<Seat>,
+    seats: Vec<Seat<M>>,
 ) -> Result<(Desk, Vec<Sequence<Reply>>), RunRefusal>
     requires some { 0 < vec_len seats }
-    requires ended { AllByRecursion (HasEnded buffer.now) seats.items }
+    requires ended { AllByRecursion (HasEnded M.tells buffer.now) seats.items }
     ensures desk { IfOk result (λ r. IsDeskOf buffer.now r.0) }
-    ensures gathered { IfOk result (λ r. (css : List (List Asked)) → length css ≤ buffer.now.desks → HaveRun buffer.now 0 css seats.items → Has (IsGatheredIn buffer.now css r.1.items) r.0.views) }
+    ensures gathered { IfOk result (λ r. (ws : List Work) → length ws ≤ buffer.now.desks → HaveRun M.tells buffer.now 0 ws seats.items → Has (IsGatheredIn buffer.now ws r.1.items) r.0.views) }
 {
     let mut left = seats.into_iter();
     let Some(first) = left.next() else {

@@ -6,7 +6,7 @@ use Rattle.sessions.proofs.SeatLemmas.{Seating}
 use Rattle.sessions.proofs.seating.seat_all.Given as goal
 
 abbrev pub invariant-loop-plan : goal.invariant-loop-plan
-invariant-loop-plan l = record {
+invariant-loop-plan g l = record {
   len : into_iter_len l.plan-iterator ≡ length (into_iter_items l.plan-iterator);
   desks_len : into_iter_len l.desks ≡ length (into_iter_items l.desks);
   hands : hands_wanted (into_iter_items l.plan-iterator) ≤ vec_len l.spare;

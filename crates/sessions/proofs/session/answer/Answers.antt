@@ -4,4 +4,4 @@ use Rattle.sessions.proofs.session.answer.Goals as goal
 
 pub returns-then-is_call-clause-reply : goal.returns-then-is_call-clause-reply
 returns-then-is_call-clause-reply g c =
-    play_answered c.args.buffer.now c.args.command c.in_ok-play.field-0 c.args.holding.now.kept c.args.desk.now.views c.play.new.desk.views (sym c.is_call.ensures ∙ c.if-is_call.true) c.in_ok-play.ensures.ok
+    play_answered c.args.buffer.now _ c.args.command c.in_ok-play.field-0 c.args.holding.now.kept c.args.desk.now.views c.play.new.desk.views (sym c.is_call.ensures ∙ c.if-is_call.true) c.in_ok-play.ensures.ok
