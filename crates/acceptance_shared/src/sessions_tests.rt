@@ -4,6 +4,7 @@ ghost use Rattle.sessions.specs.Seats.{CanBeAnswered};
 
 use crate::shared_buffer_tests::{Counting, plain};
 use machine::{Command, Reply, Text};
+use outer::LiteralMatcher;
 use points::{Point, Range};
 use sessions::{Plan, Ran, run_sessions};
 use std::alloc::Global;
@@ -17,7 +18,7 @@ fn start() -> Range {
 }
 
 // Three edits that put an `x` at the text's start, for a session without hands.
-fn typing(alloc: Global) -> Option<Plan>
+fn typing(alloc: Global) -> Option<Plan<LiteralMatcher>>
     ensures { IfSome result (λ p. (p.hands ≡ 0) × CanBeAnswered p) }
 {
     let mut commands = Vec::new(alloc);
@@ -26,7 +27,11 @@ fn typing(alloc: Global) -> Option<Plan>
         let range = start();
         commands.push(Command::Edit { range, text }).ok()?;
     }
-    Some(Plan { commands, hands: 0 })
+    Some(Plan {
+        commands,
+        matchers: Vec::new(alloc),
+        hands: 0,
+    })
 }
 
 // Two such sessions, run.
