@@ -1,10 +1,10 @@
 -- One step more of a session, and one of a worker.
-use Rattle.std.proofs.Common.{◌≡◌, ℕ, List, [], ◌∷◌, ◌++◌, map, Option, IsPermutation, sym, ap, ◌∙◌, append_assoc, subst}
+use Rattle.std.proofs.Common.{◌≡◌, ℕ, List, [], ◌∷◌, ◌++◌, map, Option, IsPermutation, sym, ap, ◌∙◌, append_assoc, subst, ◌<◌, length, append-nil, length-append, arith}
 use Rattle.std.proofs.lemmas.List.Elements.{All-push}
-use Rattle.std.proofs.lemmas.List.Sorted.{IsPermutation-sym, IsPermutation-middle, IsPermutation-append_comm, IsPermutation-push_more}
-use Rattle.std.proofs.lemmas.List.{map-append}
+use Rattle.std.proofs.lemmas.List.Sorted.{IsPermutation-sym, IsPermutation-middle, IsPermutation-append_comm, IsPermutation-push_more, IsPermutation-map, length_permutation}
+use Rattle.std.proofs.lemmas.List.{map-append, length-map}
 use Rattle.handover.specs.declared.rule.Share.{Share}
-use Rattle.handover.specs.Accounts.{with_put, with_taken}
+use Rattle.handover.specs.Accounts.{with_put, with_taken, Learned, ALL_PARTS}
 use Rattle.outer.specs.Matcher.{ToldHits}
 use Rattle.workers.specs.Tasks.{Request}
 use Rattle.workers.specs.declared.done.Done.{Done}
@@ -47,7 +47,6 @@ module _ {M K : Type 0} (tells : M → Option ToldHits) (taken : K → Option (L
   pub takes : (v : Share (Request M K)) (dones : List (Done M K)) (x : Request M K) (d : Done M K) → sending_of d ≡ queued x → IsEnded tells taken faults d → HasHelped tells taken faults v dones → HasHelped tells taken faults (with_taken v x) (dones ++ d ∷ [])
   takes v dones x d is e h =
       record {
-        none = h.none;
         once = map-append sending_of dones (d ∷ []) ∙ (ap (λ (y : Sending M K). map sending_of dones ++ y ∷ []) is ∙ (ap (λ (l : List (Sending M K)). l ++ queued x ∷ []) h.once ∙ sym (map-append queued v.taken (x ∷ []))));
         ended = All-push (IsEnded tells taken faults) dones d h.ended e;
       }
@@ -64,3 +63,34 @@ module _ {M K : Type 0} (tells : M → Option ToldHits) (taken : K → Option (L
       let all : map noted ys ≡ map noted xs ++ noted n ∷ [] = ap (map noted) more ∙ map-append noted xs (n ∷ []) in
       subst (λ (l : List (Sending M K)). HasSent tells taken faults v l after) (sym all)
       (subst (λ (l : List (Done M K)). HasSent tells taken faults v (map noted xs ++ noted n ∷ []) l) (sym longer) (runs v (map noted xs) dones (noted n) d is e h))
+
+  -- a worker that ran one task more, and one that found none
+  pub took : (v w : Share (Request M K)) (dones after : List (Done M K)) (x : Request M K) (d : Done M K) → w ≡ with_taken v x → after ≡ dones ++ d ∷ [] → sending_of d ≡ queued x → IsEnded tells taken faults d → HasHelped tells taken faults v dones → HasHelped tells taken faults w after
+  took v w dones after x d grown longer is e h =
+      subst (λ (l : List (Done M K)). HasHelped tells taken faults w l) (sym longer)
+      (subst (λ (u : Share (Request M K)). HasHelped tells taken faults u (dones ++ d ∷ [])) (sym grown) (takes v dones x d is e h))
+
+  pub stays : (v w : Share (Request M K)) (dones : List (Done M K)) → w ≡ v → HasHelped tells taken faults v dones → HasHelped tells taken faults w dones
+  stays v w dones same h = subst (λ (u : Share (Request M K)). HasHelped tells taken faults u dones) (sym same) h
+
+  -- what was run is as long as what was taken, and what was taken is no longer than what was put
+  pub room : (v : Share (Request M K)) (dones : List (Done M K)) (x : Request M K) (w : Share (Request M K)) (items : List (Request M K)) → w ≡ with_taken v x → Learned w items → w.parts ≡ ALL_PARTS → HasHelped tells taken faults v dones → length dones < length v.put
+  room v dones x w items grown learned all h =
+      let put : w.put ≡ v.put = ap (λ (s : Share (Request M K)). s.put) grown in
+      let took : w.taken ≡ v.taken ++ x ∷ [] = ap (λ (s : Share (Request M K)). s.taken) grown in
+      let long : length (w.taken ++ items) ≡ length w.put = length_permutation _ _ (learned all) in
+      let same : length (map sending_of dones) ≡ length (map queued v.taken) = ap length h.once in
+      let a = length-map dones sending_of in
+      let b = length-map v.taken queued in
+      let d = length-append w.taken items in
+      let e : length w.taken ≡ length (v.taken ++ x ∷ []) = ap length took in
+      let f = length-append v.taken (x ∷ []) in
+      let k : length w.put ≡ length v.put = ap length put in
+      grind (arith, long, same, a, b, d, e, f, k)
+
+  -- where nothing is left, each task that was put was run
+  pub drained : (v : Share (Request M K)) (dones : List (Done M K)) (items : List (Request M K)) → length items ≡ 0 → Learned v items → v.parts ≡ ALL_PARTS → HasHelped tells taken faults v dones → IsPermutation (map queued v.put) (map sending_of dones)
+  drained v dones [] none learned all h =
+      let lists : IsPermutation v.put v.taken = subst (λ (l : List (Request M K)). IsPermutation v.put l) (append-nil v.taken) (learned all) in
+      subst (λ (l : List (Sending M K)). IsPermutation (map queued v.put) l) (sym h.once) (IsPermutation-map queued _ _ lists)
+  drained v dones (x ∷ items) none learned all h = absurd (omega (arith, none))

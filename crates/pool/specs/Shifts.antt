@@ -22,8 +22,7 @@ module _ {M K : Type 0} (tells : M → Option ToldHits) (taken : K → Option (L
     pub once : IsPermutation sent (map queued share.put ++ map sending_of dones)
     pub ended : All (IsEnded tells taken faults) dones
 
-  -- what a worker did: it ran what it took, and nothing else
+  -- what was run of what was taken: all of it, in order
   pub record HasHelped (share : Share (Request M K)) (dones : List (Done M K)) : Type 0 where
-    pub none : share.put ≡ []
     pub once : map sending_of dones ≡ map queued share.taken
     pub ended : All (IsEnded tells taken faults) dones

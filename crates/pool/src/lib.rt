@@ -7,5 +7,6 @@
 mod kept;
 mod noted;
 mod port;
+mod worker;
 
 pub use port::Port;
