@@ -9,4 +9,4 @@ mod task;
 
 pub use answers::{Answer, Read};
 pub use done::Done;
-pub use task::{Task, run_task};
+pub use task::{Sent, Task, run_task};

@@ -79,6 +79,52 @@ impl<M: Matcher, K: Sink + Drop> Task<M, K> {
     }
 }
 
+/// A task on its way, in a queue that may be let go with what it holds: the task is retired then.
+pub struct Sent<M: Matcher, K: Sink + Drop> {
+    task: Task<M, K>,
+}
+
+impl<M: Matcher, K: Sink + Drop> Model for Sent<M, K> {
+    ghost use Rattle.workers.specs.Tasks.{Request};
+
+    ghost Value = { Request M K };
+
+    ghost view = { λ s. s.task };
+}
+
+impl<M: Matcher, K: Sink + Drop> Sent<M, K> {
+    /// The task, on its way.
+    pub fn new(task: Task<M, K>) -> Sent<M, K>
+        ensures { result ≡ task }
+    {
+        Sent { task }
+    }
+
+    /// The task, to be run.
+    pub fn open(self) -> Task<M, K>
+        ensures { result ≡ self }
+    {
+        let Sent { task } = self;
+        task
+    }
+}
+
+impl<M: Matcher, K: Sink + Drop> Drop for Sent<M, K> {
+    fn drop(self) {
+        let Sent { task } = self;
+        let Task {
+            session: _,
+            number: _,
+            snapshot,
+            reads,
+            room,
+        } = task;
+        snapshot.retire();
+        drop(reads);
+        drop(room);
+    }
+}
+
 /// Runs a task: between the gate's `enter` and `leave` it opens the snapshot, answers the reads on it and gives it up.
 pub fn run_task<B: PlainBuffer + Send, M: Matcher, K: Sink + Drop, G: Gate, R: Wait>(
     rt: &R,

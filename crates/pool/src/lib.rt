@@ -1,0 +1,12 @@
+//! Tasks that sessions send while workers run them in threads: each is done once.
+//!
+//! - A session sends its tasks through a [`Port`]. Where the queue is full, or there are no workers, the task is run at once
+//!   by the session itself.
+#![tactic(auto)]
+
+mod kept;
+mod noted;
+mod port;
+mod worker;
+
+pub use port::Port;

@@ -1,0 +1,11 @@
+//! What a port remembers of what was sent.
+use outer::{Matcher, Sink};
+use std::snapshot::Snapshot as Shown;
+use workers::Task;
+
+// A task that was sent, which only contracts see, and whether the session ran it.
+#[derive(Drop)]
+pub struct Noted<M: Matcher, K: Sink> {
+    pub task: Shown<Task<M, K>>,
+    pub here: bool,
+}
