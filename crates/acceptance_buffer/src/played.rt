@@ -3,8 +3,9 @@
 //! The conditions of a buffer's calls say what its marks, steps and watchers stand for, which no code can test: so they go
 //! from call to call here, and the tests see answers alone.
 ghost use Rattle.std.specs.Prelude.{◌≤◌, ◌<◌, ◌^◌};
-ghost use Rattle.watch.specs.Seats.{Stands};
-ghost use Rattle.buffer.specs.Seen.{state_of};
+ghost use Rattle.watch.specs.Listed.{heard_count, heard_list};
+ghost use Rattle.watch.specs.Seats.{HasHeard};
+ghost use Rattle.buffer.specs.Seen.{Hears, state_of};
 ghost use Rattle.buffer.specs.Sound.{IsSound};
 
 use crate::asked::{Ask, command};
@@ -13,11 +14,11 @@ use machine::{Command, Reply};
 use plain_replay::Plain;
 use points::{LAST, MAX_UNITS, Units};
 use std::alloc::Global;
-use watch::{ListWatcher, Listens, Seat, Watcher};
+use watch::{ListWatcher, Watcher};
 
 /// What a buffer replies to these in turn. So many watchers are there to be attached.
 pub fn played(alloc: Global, text: &str, asks: &[Ask], watchers: u32) -> Option<Vec<Reply>> {
-    let mut spare: Vec<Box<dyn Watcher>> = Vec::new(alloc);
+    let mut spare: Vec<Box<ListWatcher>> = Vec::new(alloc);
     for _ in 0..watchers {
         let watcher = ListWatcher::new(alloc, 0).ok()?;
         spare.push(Box::new(alloc, watcher).ok()?).ok()?;
@@ -35,13 +36,13 @@ pub fn played(alloc: Global, text: &str, asks: &[Ask], watchers: u32) -> Option<
 // Plays these in turn.
 fn play_all(
     alloc: Global,
-    mut buffer: Buffer,
+    mut buffer: Buffer<ListWatcher>,
     asks: &[Ask],
-    mut spare: Vec<Box<dyn Watcher>>,
+    mut spare: Vec<Box<ListWatcher>>,
 ) -> Option<Vec<Reply>>
     requires sound { IsSound (state_of buffer) }
     requires told { buffer.followers.watchers.told ≤ buffer.count }
-    requires stands { Stands (λ s. ⟦<Seat as Listens>⟧.kept s) buffer.followers.watchers.told buffer.followers.watchers.seats.items }
+    requires stands { Hears (HasHeard heard_count heard_list) buffer }
 {
     let mut replies = Vec::new(alloc);
     for ask in asks {
@@ -55,16 +56,16 @@ fn play_all(
 // Plays one. To attach a watcher takes one of those that are there.
 fn play_one(
     alloc: Global,
-    buffer: &mut Buffer,
+    buffer: &mut Buffer<ListWatcher>,
     command: &Command,
-    spare: &mut Vec<Box<dyn Watcher>>,
+    spare: &mut Vec<Box<ListWatcher>>,
 ) -> Option<Reply>
     requires sound { IsSound (state_of buffer.old) }
     requires told { buffer.old.followers.watchers.told ≤ buffer.old.count }
-    requires stands { Stands (λ s. ⟦<Seat as Listens>⟧.kept s) buffer.old.followers.watchers.told buffer.old.followers.watchers.seats.items }
+    requires stands { Hears (HasHeard heard_count heard_list) buffer.old }
     ensures sound { IsSound (state_of buffer.new) }
     ensures told { buffer.new.followers.watchers.told ≤ buffer.new.count }
-    ensures stands { Stands (λ s. ⟦<Seat as Listens>⟧.kept s) buffer.new.followers.watchers.told buffer.new.followers.watchers.seats.items }
+    ensures stands { Hears (HasHeard heard_count heard_list) buffer.new }
 {
     match command {
         Command::Watch { id } => {
@@ -77,13 +78,13 @@ fn play_one(
 }
 
 // Plays a call, or a squash, that brings no watcher.
-fn play(alloc: Global, buffer: &mut Buffer, command: &Command) -> Option<Reply>
+fn play(alloc: Global, buffer: &mut Buffer<ListWatcher>, command: &Command) -> Option<Reply>
     requires sound { IsSound (state_of buffer.old) }
     requires told { buffer.old.followers.watchers.told ≤ buffer.old.count }
-    requires stands { Stands (λ s. ⟦<Seat as Listens>⟧.kept s) buffer.old.followers.watchers.told buffer.old.followers.watchers.seats.items }
+    requires stands { Hears (HasHeard heard_count heard_list) buffer.old }
     ensures sound { IsSound (state_of buffer.new) }
     ensures told { buffer.new.followers.watchers.told ≤ buffer.new.count }
-    ensures stands { Stands (λ s. ⟦<Seat as Listens>⟧.kept s) buffer.new.followers.watchers.told buffer.new.followers.watchers.seats.items }
+    ensures stands { Hears (HasHeard heard_count heard_list) buffer.new }
 {
     if buffer.count >= LAST {
         return None;
@@ -105,13 +106,13 @@ fn play(alloc: Global, buffer: &mut Buffer, command: &Command) -> Option<Reply>
 }
 
 // Attaches the watcher. Where it is refused, it must come back.
-fn watch(buffer: &mut Buffer, id: u32, watcher: Box<dyn Watcher>) -> Option<Reply>
+fn watch(buffer: &mut Buffer<ListWatcher>, id: u32, watcher: Box<ListWatcher>) -> Option<Reply>
     requires sound { IsSound (state_of buffer.old) }
     requires told { buffer.old.followers.watchers.told ≤ buffer.old.count }
-    requires stands { Stands (λ s. ⟦<Seat as Listens>⟧.kept s) buffer.old.followers.watchers.told buffer.old.followers.watchers.seats.items }
+    requires stands { Hears (HasHeard heard_count heard_list) buffer.old }
     ensures sound { IsSound (state_of buffer.new) }
     ensures told { buffer.new.followers.watchers.told ≤ buffer.new.count }
-    ensures stands { Stands (λ s. ⟦<Seat as Listens>⟧.kept s) buffer.new.followers.watchers.told buffer.new.followers.watchers.seats.items }
+    ensures stands { Hears (HasHeard heard_count heard_list) buffer.new }
 {
     if buffer.count >= LAST || watcher.count() > 1 << 63 {
         return None;
@@ -126,13 +127,13 @@ fn watch(buffer: &mut Buffer, id: u32, watcher: Box<dyn Watcher>) -> Option<Repl
 }
 
 // Takes the watcher off. It must have counted what is told.
-fn unwatch(buffer: &mut Buffer, id: u32) -> Option<Reply>
+fn unwatch(buffer: &mut Buffer<ListWatcher>, id: u32) -> Option<Reply>
     requires sound { IsSound (state_of buffer.old) }
     requires told { buffer.old.followers.watchers.told ≤ buffer.old.count }
-    requires stands { Stands (λ s. ⟦<Seat as Listens>⟧.kept s) buffer.old.followers.watchers.told buffer.old.followers.watchers.seats.items }
+    requires stands { Hears (HasHeard heard_count heard_list) buffer.old }
     ensures sound { IsSound (state_of buffer.new) }
     ensures told { buffer.new.followers.watchers.told ≤ buffer.new.count }
-    ensures stands { Stands (λ s. ⟦<Seat as Listens>⟧.kept s) buffer.new.followers.watchers.told buffer.new.followers.watchers.seats.items }
+    ensures stands { Hears (HasHeard heard_count heard_list) buffer.new }
 {
     if buffer.count >= LAST {
         return None;
@@ -145,7 +146,7 @@ fn unwatch(buffer: &mut Buffer, id: u32) -> Option<Reply>
     }
 }
 
-fn counted(watcher: &Option<Box<dyn Watcher>>) -> Option<u64> {
+fn counted(watcher: &Option<Box<ListWatcher>>) -> Option<u64> {
     match watcher {
         Some(watcher) => Some(watcher.count()),
         None => None,

@@ -11,7 +11,7 @@ fn insertion(alloc: Global) -> Option<Change> {
 }
 
 // Whether the watcher was refused as one whose id is taken, and came back with this count.
-fn is_taken(answer: &Result<(), WatchBack>, count: u64) -> bool {
+fn is_taken(answer: &Result<(), WatchBack<ListWatcher>>, count: u64) -> bool {
     match answer {
         Err(WatchBack::WatchTaken(watcher)) => watcher.count() == count,
         _ => false,
@@ -19,7 +19,7 @@ fn is_taken(answer: &Result<(), WatchBack>, count: u64) -> bool {
 }
 
 // Whether a watcher came back that was told so many changes and counts so many.
-fn is_back<E>(answer: &Result<(Box<dyn Watcher>, u64), E>, told: u64, count: u64) -> bool {
+fn is_back<E>(answer: &Result<(Box<ListWatcher>, u64), E>, told: u64, count: u64) -> bool {
     match answer {
         Ok((watcher, number)) => *number == told && watcher.count() == count,
         Err(_) => false,
@@ -42,7 +42,7 @@ fn taken_and_unknown(rt: HostRuntime) -> Result<(), Fail> {
 }
 
 // Whether the seats have these ids, in this order.
-fn ids_are(watchers: &Watchers, ids: &[u32]) -> bool {
+fn ids_are(watchers: &Watchers<ListWatcher>, ids: &[u32]) -> bool {
     let seats = watchers.seats.as_slice();
     if seats.len() != ids.len() {
         return false;

@@ -301,13 +301,33 @@ read|{\"do\":\"take\",\"snapshot\":7},{\"do\":\"read\",\"snapshot\":7,\"reads\":
 1 2 UnknownSnapshot|{\"do\":\"take\",\"snapshot\":7},{\"do\":\"read\",\"snapshot\":7.0,\"reads\":[]}\n\
 1 2 UnknownSnapshot|{\"do\":\"take\",\"snapshot\":7},{\"do\":\"read\",\"snapshot\":8,\"reads\":[{\"get\":\"text\",\"range\":[0,0,0,0],\"limit\":65537}]}\n\
 1 2 BadShape|{\"do\":\"take\",\"snapshot\":7},{\"do\":\"read\",\"snapshot\":8,\"reads\":[{\"get\":\"text\",\"range\":[0,0,0,0],\"limit\":65537},null]}\n\
-1 2 BadShape|{\"do\":\"take\",\"snapshot\":7},{\"do\":\"read\",\"snapshot\":7,\"reads\":[{\"get\":\"save\",\"name\":\"a\",\"encoding\":\"utf8\"}]}\n\
 1 2 BadNumber|{\"do\":\"take\",\"snapshot\":7},{\"do\":\"read\",\"snapshot\":7,\"reads\":[{\"get\":\"text\",\"range\":[0,0,0,0],\"limit\":65537}]}\n\
 1 2 BadShape|{\"do\":\"take\",\"snapshot\":7},{\"do\":\"read\",\"snapshot\":7,\"reads\":{}}";
 
 #[test]
 fn places_faults_of_snapshots(rt: HostRuntime) {
     for row in SNAPSHOTS.split('\n') {
+        assert!(rt; commands_hold(rt.alloc(), row), "{row}");
+    }
+}
+
+// Saves: names and encodings that are right; each rule that they break, the lower one first, whichever read breaks it; a name that
+// comes again, in one command or in another.
+const SAVES: &str = "\
+read|{\"do\":\"take\",\"snapshot\":7},{\"do\":\"read\",\"snapshot\":7,\"reads\":[{\"get\":\"save\",\"name\":\"a\",\"encoding\":\"utf8\"},{\"get\":\"save\",\"name\":\"B-2_x.txt\",\"encoding\":\"latin1\"}]},{\"do\":\"send\",\"snapshot\":7,\"reads\":[{\"get\":\"save\",\"name\":\"c\",\"encoding\":\"utf16be\"}]}\n\
+1 2 BadName|{\"do\":\"take\",\"snapshot\":7},{\"do\":\"read\",\"snapshot\":7,\"reads\":[{\"get\":\"save\",\"name\":\".x\",\"encoding\":\"utf8\"}]}\n\
+1 2 BadEncoding|{\"do\":\"take\",\"snapshot\":7},{\"do\":\"read\",\"snapshot\":7,\"reads\":[{\"get\":\"save\",\"name\":\"a\",\"encoding\":\"utf-8\"}]}\n\
+1 2 BadEncoding|{\"do\":\"take\",\"snapshot\":7},{\"do\":\"read\",\"snapshot\":7,\"reads\":[{\"get\":\"find\",\"needle\":\"\",\"limit\":1},{\"get\":\"save\",\"name\":\".x\",\"encoding\":\"utf-8\"}]}\n\
+1 2 BadNumber|{\"do\":\"take\",\"snapshot\":7},{\"do\":\"read\",\"snapshot\":7,\"reads\":[{\"get\":\"save\",\"name\":\"a\",\"encoding\":\"utf-8\"},{\"get\":\"find\",\"needle\":\"\",\"limit\":1001}]}\n\
+1 2 EmptyNeedle|{\"do\":\"take\",\"snapshot\":7},{\"do\":\"read\",\"snapshot\":7,\"reads\":[{\"get\":\"save\",\"name\":\".x\",\"encoding\":\"utf8\"},{\"get\":\"find\",\"needle\":\"\",\"limit\":1}]}\n\
+1 2 BadName|{\"do\":\"take\",\"snapshot\":7},{\"do\":\"read\",\"snapshot\":7,\"reads\":[{\"get\":\"save\",\"name\":\"a\",\"encoding\":\"utf8\"},{\"get\":\"save\",\"name\":\"a\",\"encoding\":\"latin1\"}]}\n\
+1 3 BadName|{\"do\":\"take\",\"snapshot\":7},{\"do\":\"read\",\"snapshot\":7,\"reads\":[{\"get\":\"save\",\"name\":\"a\",\"encoding\":\"utf8\"}]},{\"do\":\"send\",\"snapshot\":7,\"reads\":[{\"get\":\"save\",\"name\":\"a\",\"encoding\":\"utf8\"}]}\n\
+1 2 BadShape|{\"do\":\"take\",\"snapshot\":7},{\"do\":\"read\",\"snapshot\":7,\"reads\":[{\"get\":\"save\",\"name\":\"a\"}]}\n\
+1 2 BadShape|{\"do\":\"take\",\"snapshot\":7},{\"do\":\"read\",\"snapshot\":7,\"reads\":[{\"get\":\"save\",\"name\":0,\"encoding\":\"utf8\"}]}";
+
+#[test]
+fn places_faults_of_saves(rt: HostRuntime) {
+    for row in SAVES.split('\n') {
         assert!(rt; commands_hold(rt.alloc(), row), "{row}");
     }
 }

@@ -11,7 +11,10 @@ use Rattle.points.specs.Place.{clip}
 use Rattle.points.specs.Marks.{mark_order}
 use Rattle.points.specs.MarkList.{mark_with, with_mark, without_mark, with_exclusive, ids_where}
 use Rattle.machine.specs.declared.command.How.{How}
+use Rattle.machine.specs.declared.command.Command.{Command}
+use Rattle.machine.specs.declared.command.Command.TheVariants as command
 use Rattle.machine.specs.declared.reply.CallRefusal.TheVariants as no
+use Rattle.buffer.specs.Played.{is_on_marks}
 use Rattle.machine.specs.Machine.{State, Answer, Done, Ranged, Compared, Found, Refused, step, find_marks, finds, counted, tells, with_marks, on_mark, add_mark, remove_mark, set_exclusive, mark_range, compare_marks}
 
 -- what a refusal exactly there says where it didn't come
@@ -116,3 +119,26 @@ compare_unknown s a b none = uncompared_by s (mark_with a s.marks) (mark_with b 
 pub marks_found : (s : State) (how : How) (range : Range) (ids : List ℕ) → ids ≡ ids_where (finds how range.start range.end) s.marks → step s (find_marks how range) ≡ (counted s, Found ids)
 unfolding step
 marks_found s how range ids is = rw is refl
+
+-- a call on marks is one of six
+pub one_of_six : (c : Command) → is_on_marks c ≡ true → ((id : ℕ) (range : Range) (exclusive : Bool) → c ≡ command.Mark id range exclusive → ⊥) → ((id : ℕ) → c ≡ command.Unmark id → ⊥)
+    → ((id : ℕ) (value : Bool) → c ≡ command.Exclusive id value → ⊥) → ((id : ℕ) → c ≡ command.Range id → ⊥) → ((how : How) (range : Range) → c ≡ command.Marks how range → ⊥)
+    → ((a b : ℕ) → c ≡ command.Compare a b → ⊥) → ⊥
+one_of_six (command.Mark id range exclusive) is mark unmark set shows finds compare = mark id range exclusive refl
+one_of_six (command.Unmark id) is mark unmark set shows finds compare = unmark id refl
+one_of_six (command.Exclusive id value) is mark unmark set shows finds compare = set id value refl
+one_of_six (command.Range id) is mark unmark set shows finds compare = shows id refl
+one_of_six (command.Marks how range) is mark unmark set shows finds compare = finds how range refl
+one_of_six (command.Compare a b) is mark unmark set shows finds compare = compare a b refl
+one_of_six (command.Edit range text) is mark unmark set shows finds compare = cc
+one_of_six (command.Batch edits) is mark unmark set shows finds compare = cc
+one_of_six command.Undo is mark unmark set shows finds compare = cc
+one_of_six command.Redo is mark unmark set shows finds compare = cc
+one_of_six (command.Text range limit) is mark unmark set shows finds compare = cc
+one_of_six (command.Watch id) is mark unmark set shows finds compare = cc
+one_of_six (command.Unwatch id) is mark unmark set shows finds compare = cc
+one_of_six (command.Take k) is mark unmark set shows finds compare = cc
+one_of_six (command.Read k reads) is mark unmark set shows finds compare = cc
+one_of_six (command.Send k reads) is mark unmark set shows finds compare = cc
+one_of_six (command.Release k) is mark unmark set shows finds compare = cc
+one_of_six command.Squash is mark unmark set shows finds compare = cc

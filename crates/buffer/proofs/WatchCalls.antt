@@ -70,33 +70,33 @@ turned (inr q) = inl q
 pub there_where_ok : (b : Bool) → ((false ≡ true) ↔ (b ≡ false)) → b ≡ true
 there_where_ok b h = elim (cases_Bool b) [ inl is ↦ is | inr isnt ↦ let bad : false ≡ true = h.1 isnt in cc ]
 
-same_told : {W E : Type 0} (p q : W × ℕ) (r : Result (W × ℕ) E) → r ≡ Ok p → r ≡ Ok q → p.1 ≡ q.1
-same_told {W} p q r a b = let pair : p ≡ q = cc in ap (λ (x : W × ℕ). x.1) pair
+same_told : {B E : Type 0} (p q : B × ℕ) (r : Result (B × ℕ) E) → r ≡ Ok p → r ≡ Ok q → p.1 ≡ q.1
+same_told {B} p q r a b = let pair : p ≡ q = cc in ap (λ (x : B × ℕ). x.1) pair
 
-module _ {X : Type 0} {D : X → Type 0} where
+module _ {W : Type 0} where
   -- the number that comes with a box that is handed back
-  pub told_is : {W E : Type 0} (o : Option (Seat X D)) (seat : Seat X D) (box : Seat X D → W) (p : W × ℕ) (r : Result (W × ℕ) E) → o ≡ Some seat → r ≡ Ok p → MatchOption o (IsErr r) (λ s. r ≡ Ok (box s, s.told)) → p.1 ≡ seat.told
+  pub told_is : {B E : Type 0} (o : Option (Seat W)) (seat : Seat W) (box : Seat W → B) (p : B × ℕ) (r : Result (B × ℕ) E) → o ≡ Some seat → r ≡ Ok p → MatchOption o (IsErr r) (λ s. r ≡ Ok (box s, s.told)) → p.1 ≡ seat.told
   told_is None seat box p r e done h = cc
-  told_is (Some x) seat box p r e done h = let same : x ≡ seat = cc in same_told p (box x, x.told) r done h ∙ ap (λ (y : Seat X D). y.told) same
+  told_is (Some x) seat box p r e done h = let same : x ≡ seat = cc in same_told p (box x, x.told) r done h ∙ ap (λ (y : Seat W). y.told) same
 
-  pub not_there : (s : State) (id : ℕ) (os : List (Option (Seat X D))) → s.watchers ≡ watchings os → RisesFrom 0 os → is_there id os ≡ false → is_some (watcher_with id s.watchers) ≡ false
+  pub not_there : (s : State) (id : ℕ) (os : List (Option (Seat W))) → s.watchers ≡ watchings os → RisesFrom 0 os → is_there id os ≡ false → is_some (watcher_with id s.watchers) ≡ false
   not_there s id os same rises none = ap (λ (ws : List Watching). is_some (watcher_with id ws)) same ∙ (there_is id 0 os rises ∙ none)
 
-  pub there : (s : State) (id : ℕ) (os : List (Option (Seat X D))) → s.watchers ≡ watchings os → RisesFrom 0 os → is_there id os ≡ true → is_some (watcher_with id s.watchers) ≡ true
+  pub there : (s : State) (id : ℕ) (os : List (Option (Seat W))) → s.watchers ≡ watchings os → RisesFrom 0 os → is_there id os ≡ true → is_some (watcher_with id s.watchers) ≡ true
   there s id os same rises is = ap (λ (ws : List Watching). is_some (watcher_with id ws)) same ∙ (there_is id 0 os rises ∙ is)
 
-  pub as_long : (s : State) (os : List (Option (Seat X D))) → s.watchers ≡ watchings os → RisesFrom 0 os → length s.watchers ≡ length os
+  pub as_long : (s : State) (os : List (Option (Seat W))) → s.watchers ≡ watchings os → RisesFrom 0 os → length s.watchers ≡ length os
   as_long s os same rises = ap (λ (ws : List Watching). length ws) same ∙ as_many 0 os rises
 
   -- what is true of each seat is true of the one that is found
-  of_first : (K : Seat X D → Type 0) (b : Bool) (s seat : Seat X D) (o : Option (Seat X D)) → cond b (Some s) o ≡ Some seat → K s → (o ≡ Some seat → K seat) → K seat
+  of_first : (K : Seat W → Type 0) (b : Bool) (s seat : Seat W) (o : Option (Seat W)) → cond b (Some s) o ≡ Some seat → K s → (o ≡ Some seat → K seat) → K seat
   of_first K true s seat o e here later = let same : s ≡ seat = cc in subst K same here
   of_first K false s seat o e here later = later e
 
-  pub of_found : (K : Seat X D → Type 0) (n : ℕ) (os : List (Option (Seat X D))) (seat : Seat X D) → AreSeats K os → slot_of n os ≡ Some seat → K seat
+  pub of_found : (K : Seat W → Type 0) (n : ℕ) (os : List (Option (Seat W))) (seat : Seat W) → AreSeats K os → slot_of n os ≡ Some seat → K seat
   of_found K n [] seat all is = cc
   of_found K n (None ∷ os) seat all is = absurd all.0
   of_found K n (Some s ∷ os) seat all is = of_first K (s.id == n) s seat (slot_of n os) is all.0 (λ h. of_found K n os seat all.1 h)
 
-  pub heard_all : (seat : Seat X D) (told : ℕ) → told ≡ seat.told → seat.told ≡ length (log_of seat.log) → told ≡ length (watching seat).heard
+  pub heard_all : (seat : Seat W) (told : ℕ) → told ≡ seat.told → seat.told ≡ length (log_of seat.log) → told ≡ length (watching seat).heard
   heard_all seat told is long = is ∙ (long ∙ sym (length-map (log_of seat.log) told_of))

@@ -12,8 +12,8 @@ use Rattle.buffer.specs.declared.buffer.Buffer.{Buffer}
 abbrev pub answered : State → Call → State × Reply
 answered s call = ((step s call).0, reply_of 1 (s.count + 1) (step s call).1)
 
-module _ {X : Type 0} {D : X → Type 0} where
-  abbrev pub state_of : Buffer X D → State
+module _ {W : Type 0} where
+  abbrev pub state_of : Buffer W → State
   state_of b = record {
     text = b.text;
     marks = b.followers.marks;
@@ -25,5 +25,5 @@ module _ {X : Type 0} {D : X → Type 0} where
   }
 
   -- K holds of each seat of the buffer's watchers, and the table of seats is as calls leave it
-  abbrev pub Hears : (Seat X D → Type 0) → Buffer X D → Type 0
+  abbrev pub Hears : (Seat W → Type 0) → Buffer W → Type 0
   Hears K b = Stands K b.followers.watchers.told b.followers.watchers.seats.items

@@ -1,11 +1,11 @@
 ghost use Rattle.std.specs.Prelude.{◌≡◌, ◌+◌, ◌<◌, ◌≤◌, length, IfOk};
 ghost use Rattle.points.specs.Text.{utf16_of, text_of};
 ghost use Rattle.machine.specs.Machine.{opened, counted};
+ghost use Rattle.watch.specs.Seats.{HasHeard};
 ghost use Rattle.buffer.specs.Seen.{Hears, state_of};
 ghost use Rattle.buffer.specs.Sound.{IsSound};
 
 use crate::layered_text::LayeredText;
-use arrayvec::ArrayVec;
 use edit_history::Steps;
 use followers::Followers;
 use line_text::{LineText, TextRefusal};
@@ -13,27 +13,27 @@ use machine::{CallRefusal, Reply, Text};
 use markers::MarkerIndex;
 use points::{LAST, MAX_UNITS, NoMemory};
 use std::alloc::Global;
-use watch::{Listens, Seat, Watchers};
+use watch::{Watcher, Watchers};
 
 /// A text with its marks, its steps back and its watchers. A call has the next number, also where it is refused.
 #[derive(Drop)]
-pub struct Buffer {
+pub struct Buffer<W> {
     pub text: LayeredText,
-    pub followers: Followers,
+    pub followers: Followers<W>,
     /// How many calls were numbered.
     pub count: u64,
     /// The number of the last call that changed the text, or 0.
     pub version: u64,
 }
 
-impl Buffer {
+impl<W: Watcher> Buffer<W> {
     /// A buffer with this text, before any call.
     pub fn open(alloc: Global, text: &str) -> Result<Self, NoMemory>
         requires { length (utf16_of text.now) ≤ MAX_UNITS }
         ensures state { IfOk result (λ b. state_of b ≡ opened (utf16_of text.now)) }
         ensures sound { IfOk result (λ b. IsSound (state_of b)) }
         ensures told { IfOk result (λ b. b.followers.watchers.told ≡ 0) }
-        ensures stands { IfOk result (λ b. Hears (λ s. ⟦<Seat as Listens>⟧.kept s) b) }
+        ensures stands { IfOk result (λ b. Hears (HasHeard W.count_of W.list_of) b) }
     {
         let text = match LineText::from_str(alloc, text) {
             Ok(text) => text,
@@ -41,15 +41,10 @@ impl Buffer {
             Err(TextRefusal::NoMemory) => return Err(NoMemory),
         };
         let text = LayeredText::of(alloc, text)?;
-        // The table of watchers is made here, as a value: what a call hands out that has a box in it
-        // must have been the caller's.
         let followers = Followers {
             marks: MarkerIndex::new(alloc),
             steps: Steps::new(alloc)?,
-            watchers: Watchers {
-                seats: ArrayVec::new(),
-                told: 0,
-            },
+            watchers: Watchers::new(),
         };
         Ok(Buffer {
             text,

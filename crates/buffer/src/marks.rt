@@ -10,8 +10,9 @@ use crate::buffer::Buffer;
 use machine::{CallRefusal, How, Reply, Sequence, Span};
 use markers::{MarkerIndex, MarkerRefusal};
 use points::{LAST, NoMemory, Range};
+use watch::Watcher;
 
-impl Buffer {
+impl<W: Watcher> Buffer<W> {
     /// Marks the clipped range.
     pub fn mark(&mut self, id: u32, range: Range, exclusive: bool) -> Result<Reply, NoMemory>
         requires count { self.old.count < LAST }

@@ -1,6 +1,7 @@
 //! A command played as a call.
 ghost use Rattle.std.specs.Prelude.{◌≡◌, ◌<◌, ◌≤◌, true, IfOk, OnErr};
 ghost use Rattle.buffer.specs.Played.{is_on_marks, is_played, played};
+ghost use Rattle.watch.specs.Seats.{HasHeard};
 ghost use Rattle.buffer.specs.Seen.{Hears, state_of};
 ghost use Rattle.buffer.specs.Sound.{IsSound};
 
@@ -8,9 +9,9 @@ use crate::buffer::Buffer;
 use machine::{Command, Reply};
 use points::{LAST, NoMemory};
 use std::alloc::Global;
-use watch::{Listens, Seat};
+use watch::Watcher;
 
-impl Buffer {
+impl<W: Watcher> Buffer<W> {
     /// Plays a command that is a call of its own and brings no watcher: an edit, a look, an undo, a redo, or a call on
     /// marks.
     pub fn play(&mut self, alloc: Global, command: &Command) -> Result<Reply, NoMemory>
@@ -18,12 +19,12 @@ impl Buffer {
         requires count { self.old.count < LAST }
         requires sound { IsSound (state_of self.old) }
         requires told { self.old.followers.watchers.told ≤ self.old.count }
-        requires stands { Hears (λ s. ⟦<Seat as Listens>⟧.kept s) self.old }
+        requires stands { Hears (HasHeard W.count_of W.list_of) self.old }
         ensures ok { IfOk result (λ reply. (state_of self.new, reply) ≡ played (state_of self.old) command.now) }
         ensures err { OnErr result (state_of self.new ≡ state_of self.old) }
         ensures sound { IsSound (state_of self.new) }
         ensures told { self.new.followers.watchers.told ≤ self.new.count }
-        ensures stands { Hears (λ s. ⟦<Seat as Listens>⟧.kept s) self.new }
+        ensures stands { Hears (HasHeard W.count_of W.list_of) self.new }
     {
         match command {
             Command::Edit { range, text } => self.edit(alloc, *range, text.as_str()),

@@ -12,6 +12,7 @@ use machine::{Read, ReadAnswer, Text};
 use points::{NoMemory, Range, Units};
 use std::alloc::Global;
 use std::marker::Model;
+use watch::Watcher;
 
 /// The text that a buffer had at a moment, with the version of that moment. It shares the layers of the text, and reads
 /// them whatever becomes of the buffer.
@@ -31,7 +32,7 @@ impl Model for Snapshot {
     ghost view = { λ s. record { text = s.reader.text; version = s.version } };
 }
 
-impl Buffer {
+impl<W: Watcher> Buffer<W> {
     /// Takes a snapshot. The hand holds on to its layers; the buffer stays as it is.
     pub fn take(&mut self, hand: u32) -> Result<Snapshot, NoMemory>
         requires { hand < 32 }

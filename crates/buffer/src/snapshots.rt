@@ -8,6 +8,7 @@ use crate::snapshot::Snapshot;
 use points::NoMemory;
 use std::alloc::Global;
 use std::marker::Model;
+use watch::Watcher;
 
 /// A snapshot under a number.
 #[derive(Drop)]
@@ -44,7 +45,7 @@ impl Snapshots {
     }
 
     /// Takes a snapshot of the buffer under a number, and answers its version.
-    pub fn take(&mut self, buffer: &mut Buffer, number: u32) -> Result<u64, NoMemory>
+    pub fn take<W: Watcher>(&mut self, buffer: &mut Buffer<W>, number: u32) -> Result<u64, NoMemory>
         ensures version { IfOk result (λ version. version ≡ buffer.old.version) }
         ensures ok { OnOk result (self.new ≡ record { number = number; text = buffer.old.text } ∷ self.old) }
         ensures err { OnErr result (self.new ≡ self.old) }
@@ -69,7 +70,7 @@ impl Snapshots {
     }
 
     /// Ends the snapshot that was taken last under a number, where there is one.
-    pub fn release(&mut self, buffer: &mut Buffer, number: u32)
+    pub fn release<W: Watcher>(&mut self, buffer: &mut Buffer<W>, number: u32)
         ensures snapshots { self.new ≡ without_first number self.old }
         ensures buffer { buffer.new ≡ buffer.old }
     {

@@ -4,6 +4,7 @@ ghost use Rattle.points.specs.Text.{utf16_of};
 ghost use Rattle.machine.specs.Machine.{edit, look, shown, counted, with_step, changed, change_of, part_of, no_hits};
 ghost use Rattle.machine.specs.Answers.{edited_reply};
 ghost use Rattle.layers.specs.Building.{AreSpots};
+ghost use Rattle.watch.specs.Seats.{HasHeard};
 ghost use Rattle.buffer.specs.Seen.{Hears, answered, state_of};
 ghost use Rattle.buffer.specs.Sound.{IsSound};
 
@@ -14,19 +15,19 @@ use line_text::splits_pair;
 use machine::{CallRefusal, Reply, Text};
 use points::{HitCounts, LAST, MAX_UNITS, NoMemory, Point, Range, Splice, Units};
 use std::alloc::Global;
-use watch::{Listens, Seat};
+use watch::Watcher;
 
-impl Buffer {
+impl<W: Watcher> Buffer<W> {
     /// Replaces the clipped range by the text.
     pub fn edit(&mut self, alloc: Global, range: Range, text: &str) -> Result<Reply, NoMemory>
         requires count { self.old.count < LAST }
         requires sound { IsSound (state_of self.old) }
         requires told { self.old.followers.watchers.told ≤ self.old.count }
-        requires stands { Hears (λ s. ⟦<Seat as Listens>⟧.kept s) self.old }
+        requires stands { Hears (HasHeard W.count_of W.list_of) self.old }
         ensures ok { IfOk result (λ reply. (state_of self.new, reply) ≡ answered (state_of self.old) (edit (range, utf16_of text.now))) }
         ensures err { OnErr result (state_of self.new ≡ state_of self.old) }
         ensures told { self.new.followers.watchers.told ≤ self.new.count }
-        ensures stands { Hears (λ s. ⟦<Seat as Listens>⟧.kept s) self.new }
+        ensures stands { Hears (HasHeard W.count_of W.list_of) self.new }
     {
         let (from, to) = self.text.spots(range);
         let new_text = Units::from_str(alloc, text)?;
@@ -80,13 +81,13 @@ impl Buffer {
         requires fits { length self.old.text + length new_text ≤ MAX_UNITS + (to.offset - from.offset) }
         requires sound { IsSound (state_of self.old) }
         requires told { self.old.followers.watchers.told ≤ self.old.count }
-        requires stands { Hears (λ s. ⟦<Seat as Listens>⟧.kept s) self.old }
+        requires stands { Hears (HasHeard W.count_of W.list_of) self.old }
         ensures state { OnOk result (state_of self.new ≡ counted (with_step (change_of (state_of self.old) from.offset to.offset new_text ∷ [])
             (changed (state_of self.old) from.offset to.offset new_text))) }
         ensures reply { IfOk result (λ reply. reply ≡ edited_reply (self.old.count + 1) (part_of (state_of self.old) from.offset to.offset new_text)) }
         ensures err { OnErr result (state_of self.new ≡ state_of self.old) }
         ensures told { self.new.followers.watchers.told ≤ self.new.count }
-        ensures stands { Hears (λ s. ⟦<Seat as Listens>⟧.kept s) self.new }
+        ensures stands { Hears (HasHeard W.count_of W.list_of) self.new }
     {
         let old_text = self.text.units(from.offset as usize, to.offset as usize)?;
         let change = change(&mut self.text, from, to, old_text, new_text)?;

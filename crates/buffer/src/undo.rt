@@ -5,6 +5,7 @@ ghost use Rattle.points.specs.Place.{offset_of};
 ghost use Rattle.machine.specs.Machine.{undo, redo, counted, splice_at, changed, part_of};
 ghost use Rattle.machine.specs.Answers.{edited_reply};
 ghost use Rattle.followers.specs.Following.{splice_by};
+ghost use Rattle.watch.specs.Seats.{HasHeard};
 ghost use Rattle.buffer.specs.Seen.{Hears, answered, state_of};
 ghost use Rattle.buffer.specs.Sound.{IsSound, Leads};
 
@@ -15,19 +16,19 @@ use followers::Replacement;
 use machine::{CallRefusal, Reply};
 use patch::Change;
 use points::{LAST, MAX_UNITS, NoMemory};
-use watch::{Listens, Seat};
+use watch::Watcher;
 
-impl Buffer {
+impl<W: Watcher> Buffer<W> {
     /// Takes the last step back, without clipping.
     pub fn undo(&mut self) -> Result<Reply, NoMemory>
         requires count { self.old.count < LAST }
         requires sound { IsSound (state_of self.old) }
         requires told { self.old.followers.watchers.told ≤ self.old.count }
-        requires stands { Hears (λ s. ⟦<Seat as Listens>⟧.kept s) self.old }
+        requires stands { Hears (HasHeard W.count_of W.list_of) self.old }
         ensures ok { IfOk result (λ reply. (state_of self.new, reply) ≡ answered (state_of self.old) undo) }
         ensures err { OnErr result (state_of self.new ≡ state_of self.old) }
         ensures told { self.new.followers.watchers.told ≤ self.new.count }
-        ensures stands { Hears (λ s. ⟦<Seat as Listens>⟧.kept s) self.new }
+        ensures stands { Hears (HasHeard W.count_of W.list_of) self.new }
     {
         let back = match self.followers.to_undo()? {
             Some(back) => back,
@@ -44,11 +45,11 @@ impl Buffer {
         requires count { self.old.count < LAST }
         requires sound { IsSound (state_of self.old) }
         requires told { self.old.followers.watchers.told ≤ self.old.count }
-        requires stands { Hears (λ s. ⟦<Seat as Listens>⟧.kept s) self.old }
+        requires stands { Hears (HasHeard W.count_of W.list_of) self.old }
         ensures ok { IfOk result (λ reply. (state_of self.new, reply) ≡ answered (state_of self.old) redo) }
         ensures err { OnErr result (state_of self.new ≡ state_of self.old) }
         ensures told { self.new.followers.watchers.told ≤ self.new.count }
-        ensures stands { Hears (λ s. ⟦<Seat as Listens>⟧.kept s) self.new }
+        ensures stands { Hears (HasHeard W.count_of W.list_of) self.new }
     {
         let on = match self.followers.to_redo()? {
             Some(on) => on,

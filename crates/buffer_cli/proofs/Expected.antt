@@ -83,25 +83,29 @@ module _ (bytes : List ℕ) (told : Option Files) (short : length bytes ≤ max_
       subst (IsAsked (status.ScriptRefused place.0 place.1 place.2)) (sym asked) (inl refl)
 
 -- The faults of a run, each with its cause: the counts that rose.
-module _ (read_rose write_rose load_rose pattern_rose : Type 0) where
+module _ (read_rose write_rose load_rose save_rose pattern_rose : Type 0) where
   abbrev IsComplete : Status → Option Status → Type 0
-  IsComplete s asked = IfSome asked (λ wanted. ¬ read_rose → ¬ write_rose → ¬ load_rose → ¬ pattern_rose → (s ≡ wanted) ⊎ (s ≡ status.NoMemory))
+  IsComplete s asked = IfSome asked (λ wanted. ¬ read_rose → ¬ write_rose → ¬ load_rose → ¬ save_rose → ¬ pattern_rose → (s ≡ wanted) ⊎ (s ≡ status.NoMemory))
 
   by_asked : (s : Status) (asked : Option Status) → IsAsked s asked → IsComplete s asked
   by_asked s None h = tt
-  by_asked s (Some wanted) h = λ read write load pattern. h
+  by_asked s (Some wanted) h = λ read write load save pattern. h
 
   by_write : (s : Status) (asked : Option Status) → write_rose → IsComplete s asked
   by_write s None rose = tt
-  by_write s (Some wanted) rose = λ read write load pattern. absurd (write rose)
+  by_write s (Some wanted) rose = λ read write load save pattern. absurd (write rose)
 
   by_load : (s : Status) (asked : Option Status) → load_rose → IsComplete s asked
   by_load s None rose = tt
-  by_load s (Some wanted) rose = λ read write load pattern. absurd (load rose)
+  by_load s (Some wanted) rose = λ read write load save pattern. absurd (load rose)
+
+  by_save : (s : Status) (asked : Option Status) → save_rose → IsComplete s asked
+  by_save s None rose = tt
+  by_save s (Some wanted) rose = λ read write load save pattern. absurd (save rose)
 
   by_pattern : (s : Status) (asked : Option Status) → pattern_rose → IsComplete s asked
   by_pattern s None rose = tt
-  by_pattern s (Some wanted) rose = λ read write load pattern. absurd (pattern rose)
+  by_pattern s (Some wanted) rose = λ read write load save pattern. absurd (pattern rose)
 
   -- the output failed
   pub complete_unwritten : (s : Status) (told : Option Files) (left : Option (List ℕ)) → write_rose → IfSome left (λ bytes. IsComplete s (expected bytes told))
@@ -116,23 +120,24 @@ module _ (read_rose write_rose load_rose pattern_rose : Type 0) where
   short_enough : (v : Vec ℕ Global) (left after : Option (List ℕ)) → (bytes : List ℕ) × Gives bytes left after × ReadsAs (Ok v) bytes after → length v.items ≤ max_input
   short_enough v left after read = subst (λ (b : List ℕ). length b ≤ max_input) (sym read.2.0) read.2.1
 
-  pub complete_done : (tells : List ℕ → Option Matches) (told : Option Files) (v : Vec ℕ Global) (text : List ℕ) (left after : Option (List ℕ)) → (bytes : List ℕ) × Gives bytes left after × ReadsAs (Ok v) bytes after
-      → IsAnswer tells told v.items text → IfSome left (λ bytes. IsComplete status.Done (expected bytes told))
-  complete_done tells told v text left after read is =
+  pub complete_done : (tells : List ℕ → Option Matches) (told later : Option Files) (v : Vec ℕ Global) (text : List ℕ) (left after : Option (List ℕ)) → (bytes : List ℕ) × Gives bytes left after × ReadsAs (Ok v) bytes after
+      → IsAnswer tells told later v.items text → IfSome left (λ bytes. IsComplete status.Done (expected bytes told))
+  complete_done tells told later v text left after read is =
       read_whole (λ bytes. IsComplete status.Done (expected bytes told)) v left after read
       (by_asked _ _ (of_script v.items told (short_enough v left after read) status.Done is.script is.read (done_by told is.script.opening is.file is.opens is.short)))
 
   module _ (last : Option (List ℕ)) (told later : Option Files) (v : Vec ℕ Global) (left after : Option (List ℕ)) (read : (bytes : List ℕ) × Gives bytes left after × ReadsAs (Ok v) bytes after) where
-    refused : (why : Unanswered) → IsCause v.items last told later why → (why ≡ unanswered.LoadFault → load_rose) → (is_of_pattern why ≡ true → pattern_rose) → IsComplete (of_answer why) (expected v.items told)
-    refused (unanswered.ScriptRefused session command why) h load pattern = by_asked _ _ (refused_by v.items told (short_enough v left after read) (session, command, why) h.0)
-    refused (unanswered.PatternRefused session command) h load pattern = by_pattern _ _ (pattern refl)
-    refused unanswered.LoadFault h load pattern = by_load _ _ (load refl)
-    refused unanswered.InputTooLong h load pattern =
+    refused : (why : Unanswered) → IsCause v.items last told later why → (why ≡ unanswered.LoadFault → load_rose) → (why ≡ unanswered.SaveFault → save_rose) → (is_of_pattern why ≡ true → pattern_rose) → IsComplete (of_answer why) (expected v.items told)
+    refused (unanswered.ScriptRefused session command why) h load save pattern = by_asked _ _ (refused_by v.items told (short_enough v left after read) (session, command, why) h.0)
+    refused (unanswered.PatternRefused session command) h load save pattern = by_pattern _ _ (pattern refl)
+    refused unanswered.SaveFault h load save pattern = by_save _ _ (save refl)
+    refused unanswered.LoadFault h load save pattern = by_load _ _ (load refl)
+    refused unanswered.InputTooLong h load save pattern =
         let file = h.0 in by_asked _ _ (of_file v.items told (short_enough v left after read) status.InputTooLong file.name file.encoding file.opens (long_by told file.name file.encoding file.long))
-    refused unanswered.TextTooLong h load pattern =
+    refused unanswered.TextTooLong h load save pattern =
         let file = h.0 in by_asked _ _ (of_file v.items told (short_enough v left after read) status.TextTooLong file.name file.encoding file.opens (text_by told file.name file.encoding file.long))
-    refused unanswered.NoMemory h load pattern = by_asked _ _ (no_memory (expected v.items told))
+    refused unanswered.NoMemory h load save pattern = by_asked _ _ (no_memory (expected v.items told))
 
-    pub complete_refused : (why : Unanswered) (s : Status) → s ≡ of_answer why → IsCause v.items last told later why → (why ≡ unanswered.LoadFault → load_rose) → (is_of_pattern why ≡ true → pattern_rose)
+    pub complete_refused : (why : Unanswered) (s : Status) → s ≡ of_answer why → IsCause v.items last told later why → (why ≡ unanswered.LoadFault → load_rose) → (why ≡ unanswered.SaveFault → save_rose) → (is_of_pattern why ≡ true → pattern_rose)
         → IfSome left (λ bytes. IsComplete s (expected bytes told))
-    complete_refused why s is h load pattern = read_whole (λ bytes. IsComplete s (expected bytes told)) v left after read (subst (λ (t : Status). IsComplete t (expected v.items told)) (sym is) (refused why h load pattern))
+    complete_refused why s is h load save pattern = read_whole (λ bytes. IsComplete s (expected bytes told)) v left after read (subst (λ (t : Status). IsComplete t (expected v.items told)) (sym is) (refused why h load save pattern))

@@ -9,3 +9,5 @@ pub mod PutLemmas
 pub mod LoadLemmas
 pub mod Expected
 pub mod CheckLemmas
+pub mod OtherReplies
+pub mod SavedLemmas

@@ -42,10 +42,10 @@ next_of : (s : State) (c : Command) (cs : List Command) → IsNext s c cs
 next_of s c cs = let by = next_by s (call_of c) (calls_of cs) in record { counts = by.0; later = by.1 }
 
 -- what holds of each command holds of the one with index i
-pub answered_at : (commands : List Command) (i : ℕ) (c : Command) → i < length commands → c ≡ get_or commands i c → AllByRecursion (λ d. is_answered d ≡ true) commands → is_answered c ≡ true
-answered_at [] i c within at all = absurd (omega arith)
-answered_at (d ∷ ds) zero c within at all = rw at all.0
-answered_at (d ∷ ds) (suc i) c within at all = answered_at ds i c (omega arith) at all.1
+pub answered_at : (n : ℕ) (commands : List Command) (i : ℕ) (c : Command) → i < length commands → c ≡ get_or commands i c → AllByRecursion (λ d. is_answered n d ≡ true) commands → is_answered n c ≡ true
+answered_at n [] i c within at all = absurd (omega arith)
+answered_at n (d ∷ ds) zero c within at all = rw at all.0
+answered_at n (d ∷ ds) (suc i) c within at all = answered_at n ds i c (omega arith) at all.1
 
 module _ {X : Type 0} where
   pub rest_at : (xs : List X) (i : ℕ) (x : X) → i < length xs → x ≡ get_or xs i x → drop i xs ≡ x ∷ drop (i + 1) xs
@@ -127,20 +127,20 @@ ended_kept k live held kept all n is =
     let found = found_without n k held o.other in
     record { there = ap (λ (x : Option Kept). is_some x) found ∙ before.there; same = ap (λ (x : Option Kept). text_kept x) found ∙ before.same }
 
-after_kept : (s : State) (c : Command) (live : List ℕ) (held kept : List Kept) → is_answered c ≡ true → AreKept live held kept → AreKept (live_after c live) (held_after s c held) (kept_after s c kept)
-after_kept s (command.Take k) live held kept is all = λ n h. taken_kept n k s.text live held kept (k == n) refl h all
-after_kept s (command.Release k) live held kept is all = ended_kept k live held kept all
-after_kept s (command.Send k reads) live held kept is all = ended_kept k live held kept all
-after_kept s _ live held kept is all = all
+after_kept : (s : State) (c : Command) (live : List ℕ) (held kept : List Kept) → AreKept live held kept → AreKept (live_after c live) (held_after s c held) (kept_after s c kept)
+after_kept s (command.Take k) live held kept all = λ n h. taken_kept n k s.text live held kept (k == n) refl h all
+after_kept s (command.Release k) live held kept all = ended_kept k live held kept all
+after_kept s (command.Send k reads) live held kept all = ended_kept k live held kept all
+after_kept s _ live held kept all = all
 
 -- a command on live snapshots is answered from them as from the texts that were taken, whatever is found later
-same_reply : (s : State) (c : Command) (live : List ℕ) (held kept : List Kept) (found later : List (Option Matches)) → is_answered c ≡ true → is_live live c ≡ true → AreKept live held kept → length found ≡ patterns_in c
+same_reply : (s : State) (c : Command) (live : List ℕ) (held kept : List Kept) (found later : List (Option Matches)) → is_live live c ≡ true → AreKept live held kept → length found ≡ patterns_in c
     → plain_reply 1 s held found c ≡ plain_reply 1 s kept (found ++ later) c
-same_reply s (command.Read k reads) live held kept found later is at all many =
+same_reply s (command.Read k reads) live held kept found later at all many =
     ap (λ t. reply.Answered (plain_answers t found reads)) (all k at).same ∙ ap reply.Answered (sym (answers_first (kept_text k kept) found later reads many))
-same_reply s (command.Send k reads) live held kept found later is at all many =
+same_reply s (command.Send k reads) live held kept found later at all many =
     ap (λ t. reply.Answered (plain_answers t found reads)) (all k at).same ∙ ap reply.Answered (sym (answers_first (kept_text k kept) found later reads many))
-same_reply s _ live held kept found later is at all many = refl
+same_reply s _ live held kept found later at all many = refl
 
 held_by : (c : Command) (live : List ℕ) (held kept : List Kept) → is_live live c ≡ true → AreKept live held kept → is_held held c ≡ true
 held_by (command.Read k reads) live held kept at all = (all k at).there
@@ -242,9 +242,9 @@ ready first now held all told left done commands i c within at so_far =
 
 -- one more command was answered
 pub runs_more : (first now next : State) (held then : List Kept) (all told rest : List (Option Matches)) (left less : ℕ) (done : List Reply) (commands : List Command) (i : ℕ) (c : Command) (reply : Reply) → i < length commands → c ≡ get_or commands i c
-    → is_answered c ≡ true → IsReply now held told rest c next reply → IsSound next → then ≡ held_after now c held → less + watches_in (c ∷ []) ≡ left
+    → IsReply now held told rest c next reply → IsSound next → then ≡ held_after now c held → less + watches_in (c ∷ []) ≡ left
     → RunsSoFar first now held all told left done commands i → RunsSoFar first next then all rest less (done ++ reply ∷ []) commands (i + 1)
-runs_more first now next held then all told rest left less done commands i c reply within at built is sound opens watches so_far =
+runs_more first now next held then all told rest left less done commands i c reply within at is sound opens watches so_far =
     let cs : List Command = drop (i + 1) commands in
     let kept : List Kept = so_far.kept in
     let step : IsNext now c cs = next_of now c cs in
@@ -259,7 +259,7 @@ runs_more first now next held then all told rest left less done commands i c rep
     record {
       kept = kept_after now c kept;
       live = live_after c so_far.live;
-      snapshots = rw opens (after_kept now c so_far.live held kept built so_far.snapshots);
+      snapshots = rw opens (after_kept now c so_far.live held kept so_far.snapshots);
       whole = rw opens (whole_after now c held so_far.sound.whole so_far.whole);
       turns = turns.1;
       watchers = omega (arith, count, watches_first c cs, watches);
@@ -269,7 +269,7 @@ runs_more first now next held then all told rest left less done commands i c rep
       split = so_far.split ∙ (ap (λ (ms : List (Option Matches)). so_far.used ++ ms) is.hits.are ∙ sym (append_assoc so_far.used is.hits.told rest));
       agree = agree-append so_far.used so_far.found is.hits.told is.found so_far.agree is.hits.agree;
       replied = λ later. replies_more first now next kept so_far.found is.found later done commands cs c reply (drop i commands) rest_is is.hits.many reached
-          (ap (λ (p : State × Reply). p.1) is.is ∙ same_reply now c so_far.live held kept is.found later built turns.0 so_far.snapshots is.hits.many)
+          (ap (λ (p : State × Reply). p.1) is.is ∙ same_reply now c so_far.live held kept is.found later turns.0 so_far.snapshots is.hits.many)
           (so_far.replied (is.found ++ later));
       reached = rw reached last;
       counted = omega (arith, so_far.counted, counted);

@@ -13,10 +13,10 @@ use Rattle.buffer_cli.proofs.HitLemmas.{patterns_more, answers_more, found_left}
 use Rattle.buffer_cli.proofs.RunLemmas.{both, rest_at}
 
 -- the next read
-pub answered_read_at : (rs : List Read) (i : ℕ) (r : Read) → i < length rs → r ≡ get_or rs i r → list_all is_answered_read rs ≡ true → is_answered_read r ≡ true
-answered_read_at [] i r within at all = absurd (omega (arith, within))
-answered_read_at (s ∷ ss) zero r within at all = rw at (both _ _ all).0
-answered_read_at (s ∷ ss) (suc i) r within at all = answered_read_at ss i r (omega (arith, within)) at (both _ _ all).1
+pub answered_read_at : (n : ℕ) (rs : List Read) (i : ℕ) (r : Read) → i < length rs → r ≡ get_or rs i r → list_all (is_answered_read n) rs ≡ true → is_answered_read n r ≡ true
+answered_read_at n [] i r within at all = absurd (omega (arith, within))
+answered_read_at n (s ∷ ss) zero r within at all = rw at (both _ _ all).0
+answered_read_at n (s ∷ ss) (suc i) r within at all = answered_read_at n ss i r (omega (arith, within)) at (both _ _ all).1
 
 patterns_at : (rs : List Read) (i : ℕ) (r : Read) → i < length rs → r ≡ get_or rs i r → count_by is_pattern (drop i rs) ≡ count_by is_pattern (r ∷ []) + count_by is_pattern (drop (i + 1) rs)
 patterns_at rs i r within at = omega (arith, ap (λ (xs : List Read). count_by is_pattern xs) (rest_at rs i r within at), patterns_more r (drop (i + 1) rs), patterns_more r [])

@@ -1,5 +1,5 @@
 -- What the buffer answers to a command: as the plain machine does.
-use Rattle.std.specs.Prelude.{◌∷◌, ℕ, List, Bool, true, false, find, is_some, count_by, Option}
+use Rattle.std.specs.Prelude.{◌∷◌, ℕ, nat_lt, List, Bool, true, false, find, is_some, count_by, Option}
 use Rattle.std.specs.List.{list_all}
 use Rattle.machine.specs.declared.command.Command.{Command}
 use Rattle.machine.specs.declared.command.Command.TheVariants as command
@@ -23,17 +23,17 @@ held_after s (command.Release k) held = without_first k held
 held_after s (command.Send k reads) held = without_first k held
 held_after s _ held = held
 
--- the reads that a session answers: all but saves, and no search for nothing
-abbrev pub is_answered_read : Read → Bool
-is_answered_read (read.Save name encoding) = false
-is_answered_read r = has_needle r
+-- the reads that a session with n sinks answers: saves where it has a sink, and no search for nothing
+abbrev pub is_answered_read : ℕ → Read → Bool
+is_answered_read n (read.Save name encoding) = nat_lt 0 n
+is_answered_read n r = has_needle r
 
--- the commands that a session answers: all but a batch and saves
-abbrev pub is_answered : Command → Bool
-is_answered (command.Batch edits) = false
-is_answered (command.Read k reads) = list_all is_answered_read reads
-is_answered (command.Send k reads) = list_all is_answered_read reads
-is_answered _ = true
+-- the commands that it answers: all but a batch
+abbrev pub is_answered : ℕ → Command → Bool
+is_answered n (command.Batch edits) = false
+is_answered n (command.Read k reads) = list_all (is_answered_read n) reads
+is_answered n (command.Send k reads) = list_all (is_answered_read n) reads
+is_answered n _ = true
 
 -- the command reads a snapshot
 abbrev pub is_read : Command → Bool

@@ -11,3 +11,4 @@ pub mod Exit
 pub mod Words
 pub mod Check
 pub mod Bulk
+pub mod Saved

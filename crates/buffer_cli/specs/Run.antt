@@ -1,9 +1,11 @@
 -- What a run of the program says: each status with its cause.
-use Rattle.std.specs.Prelude.{◌≡◌, ◌⊎◌, ℕ, ◌+◌, ◌≤◌, nat_lt, List, [], length, Bool, true, false, if◌then◌else◌, Option, Some, None}
+use Rattle.std.specs.Prelude.{◌≡◌, ◌⊎◌, ℕ, ◌+◌, ◌≤◌, ◌<◌, nat_lt, List, [], length, Bool, true, false, if◌then◌else◌, Option, Some, None}
 use Rattle.outer.specs.Source.{IsAtEnd}
 use Rattle.outer.specs.Sink.{Appends, AppendsPrefix}
 use Rattle.points.specs.declared.limits.TheConstants.{MAX_UNITS}
 use Rattle.outer.specs.Folder.{Files, bytes_of, KeepsOthers, KeepsAll}
+use Rattle.std.specs.List.{AllByRecursion}
+use Rattle.drafts.specs.Drafts.{KeepsBut}
 use Rattle.machine.specs.declared.command.Opening.{Opening}
 use Rattle.machine.specs.declared.command.Opening.TheVariants as opening
 use Rattle.machine.specs.declared.command.Script.{Script}
@@ -11,9 +13,11 @@ use Rattle.machine.specs.declared.reads.Encoding.{Encoding}
 use Rattle.machine.specs.declared.reply.Transcript.{Transcript}
 use Rattle.machine.specs.Answers.{Matches}
 use Rattle.machine.specs.Lawful.{IsLawful}
+use Rattle.machine.specs.Machine.{opened}
 use Rattle.script.specs.declared.refusal.ScriptRefusal.{ScriptRefusal}
 use Rattle.script.specs.declared.refusal.ScriptRefusal.TheVariants as refusal
 use Rattle.script.specs.declared.refusal.ScriptRule.{ScriptRule}
+use Rattle.script.specs.Limits.{saved_names}
 use Rattle.script.specs.ScriptDocument.{document, script_in, script_place}
 use Rattle.script.specs.TranscriptDocument.{transcript_value, transcript_text}
 use Rattle.buffer_cli.specs.declared.answer.Unanswered.{Unanswered}
@@ -26,6 +30,7 @@ use Rattle.buffer_cli.specs.declared.load.Unloaded.TheVariants as unloaded
 use Rattle.buffer_cli.specs.Input.{max_input}
 use Rattle.buffer_cli.specs.Load.{opened_with, IsFile, IsLongFile, IsLongText, OpensFile}
 use Rattle.buffer_cli.specs.Patterns.{told_hits, IsPatternAt}
+use Rattle.buffer_cli.specs.Saved.{saved_files, names_saved, names_of, HoldFiles}
 
 -- The text is that of a transcript that is lawful for a script that opens with these units, where these hits are told of its patterns. It
 -- has the transcript's JSON value.
@@ -35,16 +40,29 @@ pub record IsWritten (script : Script) (opening : List ℕ) (told : List (Option
   pub written : text ≡ transcript_text transcript
   pub reads_back : document text ≡ Some (transcript_value transcript)
 
+-- Each name that the script saves under holds the whole encoding of the text that its snapshot had at its taking, where the folder
+-- tells its files; the script opens with these units.
+abbrev pub AreSaved : Script → List ℕ → Option Files → Type 0
+AreSaved script opening told = AllByRecursion (λ cs. HoldFiles (saved_names cs) (saved_files (opened opening) [] cs) told) script.sessions
+
 -- The bytes are a script's, and the text is that of a transcript that is lawful for it over the text that it opened with, by the
 -- hits that `tells` tells of its patterns. A script that opens a file opens with what all bytes of that file are read as, in the
--- encoding that it names; these are the bytes that the name had before the run, where the folder tells them.
-pub record IsAnswer (tells : List ℕ → Option Matches) (files : Option Files) (bytes text : List ℕ) : Type 0 where
+-- encoding that it names; these are the bytes that the name had before the run, where the folder tells them. Its saves stand in the
+-- folder after the run.
+pub record IsAnswer (tells : List ℕ → Option Matches) (files after : Option Files) (bytes text : List ℕ) : Type 0 where
   pub script : Script
   pub read : script_in bytes ≡ Some script
   pub file : List ℕ
   pub opens : IsFile script.opening files file
   pub short : length (opened_with script.opening file) ≤ MAX_UNITS
   pub written : IsWritten script (opened_with script.opening file) (told_hits tells script) text
+  pub saved : AreSaved script (opened_with script.opening file) after
+
+-- the bytes are a script's that saves a file
+pub record IsSaving (bytes : List ℕ) : Type 0 where
+  pub script : Script
+  pub read : script_in bytes ≡ Some script
+  pub some : 0 < length (names_saved script.sessions)
 
 -- the bytes are a script's that reads a pattern at this place, the one that was refused last where that is told
 pub record IsPatternRefused (bytes : List ℕ) (last : Option (List ℕ)) (session command : ℕ) : Type 0 where
@@ -76,6 +94,10 @@ IsUnwritten o = o.after ≡ o.before
 abbrev pub IsUnsaved : Outside → Type 0
 IsUnsaved o = KeepsAll o.files o.files_after
 
+-- no file was changed but those that the script saves
+abbrev pub IsBeside : Outside → Type 0
+IsBeside o = KeepsBut (names_of (script_in o.bytes)) o.files o.files_after
+
 -- neither was anything written nor a file changed
 abbrev pub IsUntouched : Outside → Type 0
 IsUntouched o = IsUnwritten o × IsUnsaved o
@@ -103,15 +125,16 @@ pub record IsTextTooLong (bytes : List ℕ) (files : Option Files) : Type 0 wher
 
 -- What a status says of what the run did outside.
 abbrev pub Explains : Status → Outside → Type 0
-Explains status.Done o = IsWhole o × ((text : List ℕ) × IsAnswer o.tells o.files o.bytes text × Appends text o.before o.after) × IsUnsaved o
+Explains status.Done o = IsWhole o × ((text : List ℕ) × IsAnswer o.tells o.files o.files_after o.bytes text × Appends text o.before o.after) × IsBeside o
 Explains (status.Unlawful place) o = ⊥
 Explains status.Usage o = (o.bytes ≡ []) × IsUntouched o
 Explains (status.ScriptRefused session command why) o = IsWhole o × (script_place o.bytes ≡ Some (session, command, why)) × IsUntouched o
 Explains status.ReadFault o = (length o.bytes ≤ max_input) × IsUntouched o
-Explains status.WriteFault o = IsWhole o × ((text : List ℕ) × IsAnswer o.tells o.files o.bytes text × AppendsPrefix text o.before o.after) × IsUnsaved o
+Explains status.WriteFault o = IsWhole o × ((text : List ℕ) × IsAnswer o.tells o.files o.files_after o.bytes text × AppendsPrefix text o.before o.after) × IsBeside o
+Explains status.SaveFault o = IsWhole o × IsSaving o.bytes × IsUnwritten o × IsBeside o
 Explains (status.PatternRefused session command) o = IsWhole o × IsPatternRefused o.bytes o.last session command × IsUntouched o
 Explains status.InputTooLong o = ((length o.bytes ≡ max_input + 1) ⊎ (IsWhole o × IsFileTooLong o.bytes o.files)) × IsUntouched o
-Explains status.NoMemory o = (length o.bytes ≤ max_input + 1) × IsUntouched o
+Explains status.NoMemory o = (length o.bytes ≤ max_input + 1) × IsUnwritten o × IsBeside o
 Explains status.LoadFault o = IsWhole o × IsUnloaded o × IsUnwritten o
 Explains status.TextTooLong o = IsWhole o × IsTextTooLong o.bytes o.files × IsUntouched o
 
@@ -141,21 +164,23 @@ status_of told None (Some script) = status_of_opening told script.opening
 abbrev pub expected : List ℕ → Option Files → Option Status
 expected bytes told = if nat_lt max_input (length bytes) then Some status.InputTooLong else status_of told (script_place bytes) (script_in bytes)
 
--- Why a script has no answer: the place that breaks a rule, that of a pattern that was refused, or its file. Every name of the folder
--- is as it was, but for the name of a file whose reading failed.
+-- Why a script has no answer: the place that breaks a rule, that of a pattern that was refused, the file that it opens, or one that it
+-- saves. Every name of the folder is as it was, but for the name of a file whose reading failed, and those of saves that were begun.
 abbrev pub IsCause : List ℕ → Option (List ℕ) → Option Files → Option Files → Unanswered → Type 0
 IsCause bytes last files after (unanswered.ScriptRefused session command why) = (script_place bytes ≡ Some (session, command, why)) × KeepsAll files after
 IsCause bytes last files after (unanswered.PatternRefused session command) = IsPatternRefused bytes last session command × KeepsAll files after
 IsCause bytes last files after unanswered.LoadFault = (name : List ℕ) × (encoding : Encoding) × OpensFile bytes name encoding × KeepsOthers name files after
 IsCause bytes last files after unanswered.InputTooLong = IsFileTooLong bytes files × KeepsAll files after
 IsCause bytes last files after unanswered.TextTooLong = IsTextTooLong bytes files × KeepsAll files after
-IsCause bytes last files after unanswered.NoMemory = KeepsAll files after
+IsCause bytes last files after unanswered.SaveFault = IsSaving bytes × KeepsBut (names_of (script_in bytes)) files after
+IsCause bytes last files after unanswered.NoMemory = KeepsBut (names_of (script_in bytes)) files after
 
 -- why a script that was read, over its text, has no answer
-abbrev pub IsRunCause : Script → Option (List ℕ) → Unanswered → Type 0
-IsRunCause script last (unanswered.PatternRefused session command) = IsPatternAt script last session command
-IsRunCause script last unanswered.NoMemory = Unit {0}
-IsRunCause script last _ = ⊥
+abbrev pub IsRunCause : Script → Option (List ℕ) → Option Files → Option Files → Unanswered → Type 0
+IsRunCause script last files after (unanswered.PatternRefused session command) = IsPatternAt script last session command × KeepsAll files after
+IsRunCause script last files after unanswered.SaveFault = (0 < length (names_saved script.sessions)) × KeepsBut (names_saved script.sessions) files after
+IsRunCause script last files after unanswered.NoMemory = KeepsBut (names_saved script.sessions) files after
+IsRunCause script last files after _ = ⊥
 
 -- it was a pattern
 abbrev pub is_of_pattern : Unanswered → Bool
@@ -175,6 +200,7 @@ of_file unloaded.NoMemory = unanswered.NoMemory
 abbrev pub of_answer : Unanswered → Status
 of_answer (unanswered.ScriptRefused session command why) = status.ScriptRefused session command why
 of_answer (unanswered.PatternRefused session command) = status.PatternRefused session command
+of_answer unanswered.SaveFault = status.SaveFault
 of_answer unanswered.LoadFault = status.LoadFault
 of_answer unanswered.InputTooLong = status.InputTooLong
 of_answer unanswered.TextTooLong = status.TextTooLong

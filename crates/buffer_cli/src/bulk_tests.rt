@@ -5,7 +5,7 @@ use crate::{Status, run_bulk};
 use outer::MemSink;
 use points::MAX_WATCHERS;
 use std::alloc::Global;
-use watch::{ListWatcher, Watcher};
+use watch::ListWatcher;
 
 /// What `bulk 1 2 0` writes, by the worked draws of docs/formats.md: the final text is `abc` LF `def` LF `gss`.
 const SUMMED: &str = "calls 2\nunits 11\nrows 3\nsnapshots 0\nhits 0\n";
@@ -26,7 +26,7 @@ fn summed(alloc: Global, line: &[&str], fails: u64) -> Option<(Status, MemSink)>
     let mut put_fails = Vec::new(alloc);
     put_fails.push(fails).ok()?;
     let mut output = MemSink::new(alloc, 4096, put_fails).ok()?;
-    let mut watchers: Vec<Box<dyn Watcher>> = Vec::new(alloc);
+    let mut watchers: Vec<Box<ListWatcher>> = Vec::new(alloc);
     for _ in 0..MAX_WATCHERS {
         let watcher = Box::new(alloc, ListWatcher::new(alloc, 0).ok()?).ok()?;
         watchers.push(watcher).ok()?;

@@ -10,7 +10,7 @@ use std::fs;
 use std::test::Fail;
 
 /// The one file `in.txt`, with these bytes.
-fn files(alloc: Global, bytes: Vec<u8>) -> Result<Vec<(String, Vec<u8>)>, AllocError> {
+pub(crate) fn files(alloc: Global, bytes: Vec<u8>) -> Result<Vec<(String, Vec<u8>)>, AllocError> {
     let mut files = Vec::new(alloc);
     files.push((String::from_str(alloc, "in.txt")?, bytes))?;
     Ok(files)
@@ -24,7 +24,7 @@ fn script(alloc: Global, name: &str, encoding: &str) -> Result<String, AllocErro
 }
 
 /// How a run of a script ends over this folder, and what it writes.
-fn run_over<F: Folder>(
+pub(crate) fn run_over<F: Folder>(
     alloc: Global,
     script: &str,
     folder: &mut F,

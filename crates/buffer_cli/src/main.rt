@@ -4,7 +4,7 @@
 //! `words` tells the calls by their words, `make` is the one that makes scripts, `bulk` runs one and sums it up, and `check` checks a transcript.
 //! A run goes through these modules: `input` reads the script's bytes, `answer` turns them into those
 //! of the transcript, `load` reads the file that the script opens, `matchers` makes the matchers of its patterns, `session` answers each command by calls of the buffer,
-//! `reads` answers the reads of a snapshot, and `output` writes the bytes.
+//! `reads` answers the reads of a snapshot, `saves` puts a text to the next sink, and `output` writes the bytes.
 //! `run` joins them, and its contract says what the program does.
 #![tactic(auto)]
 
@@ -27,8 +27,12 @@ mod output;
 mod reads;
 mod regexes;
 mod run;
+#[cfg(test)]
+mod save_tests;
+mod saves;
 mod session;
 mod status;
+mod stop;
 #[cfg(test)]
 mod tests;
 mod unheard;
@@ -46,7 +50,7 @@ pub use status::Status;
 use std::process::ExitCode;
 use std::{env, io};
 use unheard::are_unheard;
-use watch::{ListWatcher, Watcher};
+use watch::ListWatcher;
 
 fn main(rt: HostRuntime) -> ExitCode {
     let status = run_program(&rt);
@@ -83,7 +87,7 @@ fn run_program(rt: &HostRuntime) -> Status {
         );
     }
     // Watchers that keep nothing of what they hear.
-    let mut watchers: Vec<Box<dyn Watcher>> = Vec::new(alloc);
+    let mut watchers: Vec<Box<ListWatcher>> = Vec::new(alloc);
     for _ in 0..MAX_WATCHERS {
         let Ok(watcher) = ListWatcher::new(alloc, 0) else {
             return Status::NoMemory;

@@ -44,8 +44,8 @@ pub(crate) fn make_all<P: PatternMaker>(
     Ok(matchers)
 }
 
-// The reads of a command.
-fn reads_of(command: &Command) -> &[Read]
+/// The reads of a command.
+pub(crate) fn reads_of(command: &Command) -> &[Read]
     ensures { result.now ≡ reads_in command.now }
 {
     match command {

@@ -4,6 +4,7 @@ ghost use Rattle.std.specs.Prelude.{◌≡◌, ◌⊎◌, ℕ, ◌≤◌, List, 
 ghost use Rattle.std.specs.List.{AllByRecursion};
 ghost use Rattle.outer.specs.Count.{Rose};
 ghost use Rattle.outer.specs.Source.{Gives};
+ghost use Rattle.watch.specs.Listed.{heard_count};
 ghost use Rattle.buffer_cli.specs.Words.{is_run_line};
 ghost use Rattle.buffer_cli.specs.Run.{Explains, expected, of_answer, refuses_pattern};
 
@@ -15,11 +16,11 @@ use crate::words::run_words;
 use command_words::WordsRefusal;
 use outer::{Folder, PatternMaker, Sink, Source};
 use std::alloc::Global;
-use watch::Watcher;
+use watch::ListWatcher;
 
 /// Runs the script that the input holds, and writes its transcript to the output.
 /// The words are those behind the program's name; the workers that they ask for have nothing to do yet. A file that the script
-/// opens is fetched from `folder`. `patterns` makes the matchers of the script's patterns. The k-th `watch` of the script attaches
+/// opens is fetched from `folder`, and the files that it saves are put there once all is answered. `patterns` makes the matchers of the script's patterns. The k-th `watch` of the script attaches
 /// the k-th of the watchers, none of which has heard a change yet.
 pub fn run_script<I: Source, O: Sink, F: Folder, P: PatternMaker>(
     alloc: Global,
@@ -28,14 +29,15 @@ pub fn run_script<I: Source, O: Sink, F: Folder, P: PatternMaker>(
     output: &mut O,
     folder: &mut F,
     patterns: &mut P,
-    watchers: Vec<Box<dyn Watcher>>,
+    watchers: Vec<Box<ListWatcher>>,
 ) -> Status
     requires watchers { length watchers.items ≡ 64 }
-    requires unheard { AllByRecursion (λ w. count_of w ≡ 0) watchers.items }
+    requires unheard { AllByRecursion (λ w. heard_count w.value ≡ 0) watchers.items }
     // Each status has its cause in the bytes that were read and in what the output took. On Done the
     // input was read to its end, and the output took the text of a transcript that is lawful for the
     // script whose bytes were read, by the hits that the maker tells of its patterns, over the text that the
-    // script opens with: its own, or that of the file that it names. No file of the folder is changed.
+    // script opens with: its own, or that of the file that it names. Each name that it saves under then holds the whole encoding of
+    // the text that the snapshot had at its taking; no other file of the folder is changed.
     ensures outcome { (bytes : List ℕ) × Gives bytes (I.left input.old) (I.left input.new)
         × Explains result (record {
           bytes = bytes;
@@ -57,9 +59,11 @@ pub fn run_script<I: Source, O: Sink, F: Folder, P: PatternMaker>(
     ensures output_count { O.faults output.old ≤ O.faults output.new }
     ensures pattern_count { P.refusals patterns.old ≤ P.refusals patterns.new }
     ensures load_count { F.loads folder.old ≤ F.loads folder.new }
-    ensures save_count { F.saves folder.new ≡ F.saves folder.old }
+    ensures save_count { F.saves folder.old ≤ F.saves folder.new }
     ensures read_fault { result ≡ Status.ReadFault → Rose (I.faults input.old) (I.faults input.new) }
     ensures write_fault { result ≡ Status.WriteFault → Rose (O.faults output.old) (O.faults output.new) }
+
+    ensures save_fault { result ≡ Status.SaveFault → Rose (F.saves folder.old) (F.saves folder.new) }
 
     ensures load_fault { result ≡ Status.LoadFault → Rose (F.loads folder.old) (F.loads folder.new) }
 
@@ -69,7 +73,7 @@ pub fn run_script<I: Source, O: Sink, F: Folder, P: PatternMaker>(
     // file, that rests on the files that the folder tells.
     ensures complete { is_run_line words.now ≡ true → IfSome (I.left input.old) (λ bytes. IfSome (expected bytes (F.files folder.old)) (λ status.
         ¬ Rose (I.faults input.old) (I.faults input.new) → ¬ Rose (O.faults output.old) (O.faults output.new)
-        → ¬ Rose (F.loads folder.old) (F.loads folder.new) → ¬ Rose (P.refusals patterns.old) (P.refusals patterns.new)
+        → ¬ Rose (F.loads folder.old) (F.loads folder.new) → ¬ Rose (F.saves folder.old) (F.saves folder.new) → ¬ Rose (P.refusals patterns.old) (P.refusals patterns.new)
         → (result ≡ status) ⊎ (result ≡ Status.NoMemory))) }
 {
     let _workers = match run_words(alloc, words) {
@@ -109,6 +113,7 @@ fn status_of(why: Unanswered) -> Status
         Unanswered::PatternRefused { session, command } => {
             Status::PatternRefused { session, command }
         }
+        Unanswered::SaveFault => Status::SaveFault,
         Unanswered::LoadFault => Status::LoadFault,
         Unanswered::InputTooLong => Status::InputTooLong,
         Unanswered::TextTooLong => Status::TextTooLong,

@@ -28,6 +28,8 @@ pub enum Status {
     ReadFault,
     /// The output failed. It may hold a part of the result.
     WriteFault,
+    /// A file that the script saves couldn't be made, written or put in its place.
+    SaveFault,
     /// The pattern of a read at this place was refused.
     PatternRefused {
         session: u32,
@@ -55,6 +57,7 @@ impl Status {
             Status::ScriptRefused { .. } => 3,
             Status::ReadFault => 4,
             Status::WriteFault => 5,
+            Status::SaveFault => 6,
             Status::PatternRefused { .. } => 7,
             Status::InputTooLong => 8,
             Status::NoMemory => 9,
@@ -101,6 +104,7 @@ impl fmt::Display for Fault {
             ),
             Status::ReadFault => f.write_str("cannot read the input"),
             Status::WriteFault => f.write_str("cannot write the output"),
+            Status::SaveFault => f.write_str("cannot save"),
             Status::PatternRefused { session, command } => {
                 write!(f, "pattern refused: session {session} command {command}")
             }

@@ -15,7 +15,7 @@ use script::ScriptRule;
 use std::alloc::{AllocError, Global};
 use std::io;
 use std::test::Fail;
-use watch::{ListWatcher, Watcher};
+use watch::ListWatcher;
 
 /// The script of the program's stored run, and its transcript.
 const HI: &str = r#"{"version":1,"open":{"text":""},"sessions":[[
@@ -49,7 +49,7 @@ pub(crate) fn run_watched<I: Source, O: Sink, F: Folder, P: PatternMaker>(
     folder: &mut F,
     patterns: &mut P,
 ) -> Option<Status> {
-    let mut watchers: Vec<Box<dyn Watcher>> = Vec::new(alloc);
+    let mut watchers: Vec<Box<ListWatcher>> = Vec::new(alloc);
     for _ in 0..MAX_WATCHERS {
         let watcher = Box::new(alloc, ListWatcher::new(alloc, 0).ok()?).ok()?;
         watchers.push(watcher).ok()?;
@@ -339,7 +339,7 @@ fn refuses_an_edit_past_the_limit(rt: HostRuntime) -> Result<(), Fail> {
         .ok_or("letters")?;
     let origin = Point { row: 0, column: 0 };
     let start = Range::new(origin, origin);
-    let mut buffer = Buffer::open(alloc, "")?;
+    let mut buffer: Buffer<ListWatcher> = Buffer::open(alloc, "")?;
     let fill = Command::Edit {
         range: start,
         text: Text::from_str(alloc, letters.as_str())?,

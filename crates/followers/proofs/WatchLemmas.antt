@@ -25,12 +25,12 @@ some_or : {Y : Type 0} (b : Bool) (y : Y) (o : Option Y) → is_some (cond b (So
 some_or true y o = refl
 some_or false y o = refl
 
-module _ {X : Type 0} {D : X → Type 0} where
-  told_one : (c : code.Change) (s t : Seat X D) → WasTold c s t → watching t ≡ heard_more (splice_by c) (watching s)
+module _ {W : Type 0} where
+  told_one : (c : code.Change) (s t : Seat W) → WasTold c s t → watching t ≡ heard_more (splice_by c) (watching s)
   told_one c s t h = rw (h.id, h.log) (ap (λ l. record { id = s.id; heard = l }) (map-append told_of (log_of s.log) (heard_of c ∷ [])))
 
   -- each watcher that was told heard one change more
-  pub told_watchings : (c : code.Change) (os ps : List (Option (Seat X D))) → AllFollow (WasTold c) os ps → watchings ps ≡ map (heard_more (splice_by c)) (watchings os)
+  pub told_watchings : (c : code.Change) (os ps : List (Option (Seat W))) → AllFollow (WasTold c) os ps → watchings ps ≡ map (heard_more (splice_by c)) (watchings os)
   told_watchings c [] [] h = refl
   told_watchings c [] (p ∷ ps) h = absurd h
   told_watchings c (o ∷ os) [] h = absurd h
@@ -43,28 +43,28 @@ module _ {X : Type 0} {D : X → Type 0} where
 
   -- ---- the watchers that are there, by their ids
 
-  pub as_many : (m : ℕ) (os : List (Option (Seat X D))) → RisesFrom m os → length (watchings os) ≡ length os
+  pub as_many : (m : ℕ) (os : List (Option (Seat W))) → RisesFrom m os → length (watchings os) ≡ length os
   as_many m [] r = refl
   as_many m (None ∷ os) r = absurd r
   as_many m (Some s ∷ os) r = ap (λ n. suc n) (as_many (suc s.id) os r.1)
 
-  pub there_is : (n m : ℕ) (os : List (Option (Seat X D))) → RisesFrom m os → is_some (watcher_with n (watchings os)) ≡ is_there n os
+  pub there_is : (n m : ℕ) (os : List (Option (Seat W))) → RisesFrom m os → is_some (watcher_with n (watchings os)) ≡ is_there n os
   there_is n m [] r = refl
   there_is n m (None ∷ os) r = absurd r
   there_is n m (Some s ∷ os) r = some_or (s.id == n) (watching s) (watcher_with n (watchings os)) ∙ ap (λ b. (s.id == n) || b) (there_is n (suc s.id) os r.1)
 
   -- the watcher that is found
-  found_by : (b : Bool) (s seat : Seat X D) (o : Option (Seat X D)) (w : Option Watching) → cond b (Some s) o ≡ Some seat → (o ≡ Some seat → w ≡ Some (watching seat)) → cond b (Some (watching s)) w ≡ Some (watching seat)
+  found_by : (b : Bool) (s seat : Seat W) (o : Option (Seat W)) (w : Option Watching) → cond b (Some s) o ≡ Some seat → (o ≡ Some seat → w ≡ Some (watching seat)) → cond b (Some (watching s)) w ≡ Some (watching seat)
   found_by true s seat o w is rest = let e : s ≡ seat = cc in rw e refl
   found_by false s seat o w is rest = rest is
 
-  pub found_watching : (n m : ℕ) (os : List (Option (Seat X D))) (seat : Seat X D) → RisesFrom m os → slot_of n os ≡ Some seat → watcher_with n (watchings os) ≡ Some (watching seat)
+  pub found_watching : (n m : ℕ) (os : List (Option (Seat W))) (seat : Seat W) → RisesFrom m os → slot_of n os ≡ Some seat → watcher_with n (watchings os) ≡ Some (watching seat)
   found_watching n m [] seat r is = cc
   found_watching n m (None ∷ os) seat r is = absurd r
   found_watching n m (Some s ∷ os) seat r is = found_by (s.id == n) s seat (slot_of n os) (watcher_with n (watchings os)) is (λ h. found_watching n (suc s.id) os seat r.1 h)
 
   -- all ids from m on are above n
-  all_above : (n m : ℕ) (os : List (Option (Seat X D))) → RisesFrom m os → n < m → filter (λ w. nat_lt n w.id) (watchings os) ≡ watchings os
+  all_above : (n m : ℕ) (os : List (Option (Seat W))) → RisesFrom m os → n < m → filter (λ w. nat_lt n w.id) (watchings os) ≡ watchings os
   all_above n m [] r h = refl
   all_above n m (None ∷ os) r h = absurd r
   all_above n m (Some s ∷ os) r h =
@@ -72,7 +72,7 @@ module _ {X : Type 0} {D : X → Type 0} where
       let above : n < s.id = omega (arith, low, h) in
       rw (lt-ltb n s.id above) (ap (λ l. watching s ∷ l) (all_above n (suc s.id) os r.1 (omega (arith, above))))
 
-  none_below : (n m : ℕ) (os : List (Option (Seat X D))) → RisesFrom m os → n ≤ m → filter (λ w. nat_lt w.id n) (watchings os) ≡ []
+  none_below : (n m : ℕ) (os : List (Option (Seat W))) → RisesFrom m os → n ≤ m → filter (λ w. nat_lt w.id n) (watchings os) ≡ []
   none_below n m [] r h = refl
   none_below n m (None ∷ os) r h = absurd r
   none_below n m (Some s ∷ os) r h =
@@ -80,7 +80,7 @@ module _ {X : Type 0} {D : X → Type 0} where
       let above : n ≤ s.id = omega (arith, low, h) in
       rw (le-ltb s.id n above) (none_below n (suc s.id) os r.1 (omega (arith, above)))
 
-  none_is : (n m : ℕ) (os : List (Option (Seat X D))) → RisesFrom m os → n < m → filter (λ w. not (w.id == n)) (watchings os) ≡ watchings os
+  none_is : (n m : ℕ) (os : List (Option (Seat W))) → RisesFrom m os → n < m → filter (λ w. not (w.id == n)) (watchings os) ≡ watchings os
   none_is n m [] r h = refl
   none_is n m (None ∷ os) r h = absurd r
   none_is n m (Some s ∷ os) r h =
@@ -88,7 +88,7 @@ module _ {X : Type 0} {D : X → Type 0} where
       let e : (s.id == n) ≡ false = grind (arith, nat_tests, low, h) in
       rw e (ap (λ l. watching s ∷ l) (none_is n (suc s.id) os r.1 (omega (arith, low, h))))
 
-  none_there : (n m : ℕ) (os : List (Option (Seat X D))) → RisesFrom m os → n < m → is_there n os ≡ true → ⊥
+  none_there : (n m : ℕ) (os : List (Option (Seat W))) → RisesFrom m os → n < m → is_there n os ≡ true → ⊥
   none_there n m [] r h t = cc
   none_there n m (None ∷ os) r h t = r
   none_there n m (Some s ∷ os) r h t =
@@ -97,7 +97,7 @@ module _ {X : Type 0} {D : X → Type 0} where
       none_there n (suc s.id) os r.1 (omega (arith, low, h)) (rw e at t)
 
   -- a watcher that is new stands in its place
-  pub put_watching : (n m : ℕ) (s : Seat X D) (os : List (Option (Seat X D))) → RisesFrom m os → s.id ≡ n → log_of s.log ≡ [] → is_there n os ≡ false
+  pub put_watching : (n m : ℕ) (s : Seat W) (os : List (Option (Seat W))) → RisesFrom m os → s.id ≡ n → log_of s.log ≡ [] → is_there n os ≡ false
       → watchings (insert os (count_below n os) (Some s)) ≡ with_watcher n (watchings os)
   put_watching n m s [] r e l none = rw (e, l) refl
   put_watching n m s (None ∷ os) r e l none = absurd r
@@ -113,7 +113,7 @@ module _ {X : Type 0} {D : X → Type 0} where
       ]
 
   -- the watchers without one
-  pub cut_watching : (n m : ℕ) (os : List (Option (Seat X D))) → RisesFrom m os → is_there n os ≡ true → watchings (remove os (count_below n os)) ≡ filter (λ w. not (w.id == n)) (watchings os)
+  pub cut_watching : (n m : ℕ) (os : List (Option (Seat W))) → RisesFrom m os → is_there n os ≡ true → watchings (remove os (count_below n os)) ≡ filter (λ w. not (w.id == n)) (watchings os)
   cut_watching n m [] r there = cc
   cut_watching n m (None ∷ os) r there = absurd r
   cut_watching n m (Some x ∷ os) r there = elim (cases_lt x.id n) [

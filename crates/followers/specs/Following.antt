@@ -33,12 +33,12 @@ step_back r = record { start = r.start; old = r.new_text; new = r.old_text } ∷
 abbrev pub told_of : Heard → Told
 told_of h = record { from = h.start; to = h.old_end; end = h.new_end }
 
-module _ {X : Type 0} {D : X → Type 0} where
-  abbrev pub watching : Seat X D → Watching
+module _ {W : Type 0} where
+  abbrev pub watching : Seat W → Watching
   watching s = record { id = s.id; heard = map told_of (log_of s.log) }
 
   -- the watchers in these slots
-  abbrev pub watchings : List (Option (Seat X D)) → List Watching
+  abbrev pub watchings : List (Option (Seat W)) → List Watching
   watchings [] = []
   watchings (None ∷ os) = watchings os
   watchings (Some s ∷ os) = watching s ∷ watchings os

@@ -1,7 +1,7 @@
 ghost use Rattle.std.specs.Prelude.{◌≡◌, ◌+◌, ◌-◌, ◌<◌, ◌^◌, ◌++◌, [], ◌∷◌, map, take, drop, slice_get, option_map, IfOk};
 ghost use Rattle.points.specs.MarkList.{SpliceIsWithin, all_moved, hit_counts};
 ghost use Rattle.machine.specs.Machine.{heard_more};
-ghost use Rattle.watch.specs.Seats.{Stands};
+ghost use Rattle.watch.specs.Seats.{HasHeard, Stands};
 ghost use Rattle.followers.specs.Following.{splice_by, step_of, steps_of, watchings, step_back, step_on};
 
 use crate::replacement::{Replacement, back_of, copy_of};
@@ -9,25 +9,24 @@ use edit_history::Steps;
 use markers::MarkerIndex;
 use patch::Change;
 use points::{HitCounts, MAX_COORD, MAX_STEPS, NoMemory, traversal};
-use watch::{Listens, Seat, Watchers};
+use watch::{Watcher, Watchers};
 
-/// The marks, steps and watchers of one text. Whoever makes one puts its parts together: a call that handed it out would
-/// hide the boxes in it.
+/// The marks, steps and watchers of one text.
 #[derive(Drop)]
-pub struct Followers {
+pub struct Followers<W> {
     pub marks: MarkerIndex,
     pub steps: Steps,
-    pub watchers: Watchers,
+    pub watchers: Watchers<W>,
 }
 
-impl Followers {
+impl<W: Watcher> Followers<W> {
     /// A change was made anew: the marks move, the watchers hear of it, and it can be taken back. The answer is how many
     /// marks it hits where they stood before it.
     pub fn edited(&mut self, change: Change) -> HitCounts
         requires start { change.new_range.start ≡ change.old_range.start }
         requires within { SpliceIsWithin MAX_COORD (splice_by change) self.old.marks }
         requires few { self.old.watchers.told < 2 ^ 63 - 1 }
-        requires stands { Stands (λ s. ⟦<Seat as Listens>⟧.kept s) self.old.watchers.told self.old.watchers.seats.items }
+        requires stands { Stands (HasHeard W.count_of W.list_of) self.old.watchers.told self.old.watchers.seats.items }
         ensures hits { result ≡ hit_counts (splice_by change) self.old.marks }
         ensures marks { self.new.marks ≡ all_moved (splice_by change) self.old.marks }
         ensures past { steps_of self.new.steps.past ≡ take MAX_STEPS (step_of change ∷ steps_of self.old.steps.past) }
@@ -35,7 +34,7 @@ impl Followers {
         ensures watchers { watchings self.new.watchers.seats.items
             ≡ map (heard_more (splice_by change)) (watchings self.old.watchers.seats.items) }
         ensures told { self.new.watchers.told ≡ self.old.watchers.told + 1 }
-        ensures stands { Stands (λ s. ⟦<Seat as Listens>⟧.kept s) self.new.watchers.told self.new.watchers.seats.items }
+        ensures stands { Stands (HasHeard W.count_of W.list_of) self.new.watchers.told self.new.watchers.seats.items }
     {
         let hits = self.follow(&change);
         let _ = self.steps.push(change);
@@ -68,7 +67,7 @@ impl Followers {
         requires start { change.now.new_range.start ≡ change.now.old_range.start }
         requires within { SpliceIsWithin MAX_COORD (splice_by change.now) self.old.marks }
         requires few { self.old.watchers.told < 2 ^ 63 - 1 }
-        requires stands { Stands (λ s. ⟦<Seat as Listens>⟧.kept s) self.old.watchers.told self.old.watchers.seats.items }
+        requires stands { Stands (HasHeard W.count_of W.list_of) self.old.watchers.told self.old.watchers.seats.items }
         ensures hits { result ≡ hit_counts (splice_by change.now) self.old.marks }
         ensures marks { self.new.marks ≡ all_moved (splice_by change.now) self.old.marks }
         ensures past { steps_of self.new.steps.past ≡ drop 1 (steps_of self.old.steps.past) }
@@ -76,7 +75,7 @@ impl Followers {
         ensures watchers { watchings self.new.watchers.seats.items
             ≡ map (heard_more (splice_by change.now)) (watchings self.old.watchers.seats.items) }
         ensures told { self.new.watchers.told ≡ self.old.watchers.told + 1 }
-        ensures stands { Stands (λ s. ⟦<Seat as Listens>⟧.kept s) self.new.watchers.told self.new.watchers.seats.items }
+        ensures stands { Stands (HasHeard W.count_of W.list_of) self.new.watchers.told self.new.watchers.seats.items }
     {
         let hits = self.follow(change);
         let _ = self.steps.undo();
@@ -88,7 +87,7 @@ impl Followers {
         requires start { change.now.new_range.start ≡ change.now.old_range.start }
         requires within { SpliceIsWithin MAX_COORD (splice_by change.now) self.old.marks }
         requires few { self.old.watchers.told < 2 ^ 63 - 1 }
-        requires stands { Stands (λ s. ⟦<Seat as Listens>⟧.kept s) self.old.watchers.told self.old.watchers.seats.items }
+        requires stands { Stands (HasHeard W.count_of W.list_of) self.old.watchers.told self.old.watchers.seats.items }
         ensures hits { result ≡ hit_counts (splice_by change.now) self.old.marks }
         ensures marks { self.new.marks ≡ all_moved (splice_by change.now) self.old.marks }
         ensures past { steps_of self.new.steps.past ≡ take 1 (steps_of self.old.steps.future) ++ steps_of self.old.steps.past }
@@ -96,7 +95,7 @@ impl Followers {
         ensures watchers { watchings self.new.watchers.seats.items
             ≡ map (heard_more (splice_by change.now)) (watchings self.old.watchers.seats.items) }
         ensures told { self.new.watchers.told ≡ self.old.watchers.told + 1 }
-        ensures stands { Stands (λ s. ⟦<Seat as Listens>⟧.kept s) self.new.watchers.told self.new.watchers.seats.items }
+        ensures stands { Stands (HasHeard W.count_of W.list_of) self.new.watchers.told self.new.watchers.seats.items }
     {
         let hits = self.follow(change);
         let _ = self.steps.redo();
@@ -108,14 +107,14 @@ impl Followers {
         requires start { change.now.new_range.start ≡ change.now.old_range.start }
         requires within { SpliceIsWithin MAX_COORD (splice_by change.now) self.old.marks }
         requires few { self.old.watchers.told < 2 ^ 63 - 1 }
-        requires stands { Stands (λ s. ⟦<Seat as Listens>⟧.kept s) self.old.watchers.told self.old.watchers.seats.items }
+        requires stands { Stands (HasHeard W.count_of W.list_of) self.old.watchers.told self.old.watchers.seats.items }
         ensures hits { result ≡ hit_counts (splice_by change.now) self.old.marks }
         ensures marks { self.new.marks ≡ all_moved (splice_by change.now) self.old.marks }
         ensures steps { self.new.steps ≡ self.old.steps }
         ensures watchers { watchings self.new.watchers.seats.items
             ≡ map (heard_more (splice_by change.now)) (watchings self.old.watchers.seats.items) }
         ensures told { self.new.watchers.told ≡ self.old.watchers.told + 1 }
-        ensures stands { Stands (λ s. ⟦<Seat as Listens>⟧.kept s) self.new.watchers.told self.new.watchers.seats.items }
+        ensures stands { Stands (HasHeard W.count_of W.list_of) self.new.watchers.told self.new.watchers.seats.items }
     {
         self.watchers.tell(change);
         let start = change.old_range.start;

@@ -11,9 +11,9 @@ use Rattle.points.specs.declared.limits.TheConstants.{MAX_HANDS}
 use Rattle.machine.specs.declared.command.Command.{Command}
 use Rattle.machine.specs.declared.command.Command.TheVariants as command
 use Rattle.machine.specs.Plain.{live_after, is_live, are_live}
-use Rattle.machine.specs.Lawful.{patterns_in, patterns_of}
+use Rattle.machine.specs.Lawful.{patterns_in, patterns_of, reads_in}
 use Rattle.machine.proofs.OneSession.{all-append}
-use Rattle.script.specs.Limits.{has_built_word, has_needles, IsReadable, readings_of, is_find, is_watch, is_in_turn, are_in_turn, IsWithinLimits}
+use Rattle.script.specs.Limits.{has_built_word, has_needles, IsReadable, readings_of, is_find, is_watch, names_among, saved_names, is_in_turn, are_in_turn, IsWithinLimits}
 use Rattle.json.proofs.Printed.Utf8.{IsUtf8-are_ascii}
 use Rattle.generator.proofs.Characters.{utf16_of_fits}
 use Rattle.generator.specs.Generator.{state_after, drawn, in_row, letters, drawn_edit, sent_reads, sent, block, blocks, made_sessions, made_script}
@@ -160,6 +160,14 @@ edit_readable y =
       end = record { row = omega (arith, row); column = omega (arith, column, units) };
     }
 
+-- commands without saves
+no_names : (cs : List Command) → AllByRecursion (λ c. names_among (reads_in c) ≡ []) cs → saved_names cs ≡ []
+no_names [] h = refl
+no_names (c ∷ cs) h = rw (h.0, no_names cs h.1) refl
+
+unsaved : (x edits : ℕ) → saved_names (blocks x edits) ≡ []
+unsaved x edits = no_names (blocks x edits) (blocks_all (λ c. names_among (reads_in c) ≡ []) edits x edits (λ y. refl) (λ k h. refl) (λ k h. refl) refl (omega arith))
+
 pub made_within : (first edits : ℕ) → edits ≤ 4096 → IsWithinLimits (made_script first edits 1)
 made_within first edits few =
     let x : ℕ = state_after (5 * edits * 0) first in
@@ -170,6 +178,8 @@ made_within first edits few =
       opening = omega (arith, opening_short);
       commands = (omega (arith, blocks_short x edits, few), tt);
       readings = (omega (arith, blocks_sum readings_of 2 x edits (λ y. refl) (λ k. refl) (λ k. refl) refl, div-add-mod edits 16, few), tt);
+      saves = (rw (unsaved x edits) (omega arith), tt);
+      apart = (rw (unsaved x edits) refl, tt);
       finds = (omega (arith, blocks_sum (λ c. cond (is_find c) 1 0) 0 x edits (λ y. refl) (λ k. refl) (λ k. refl) refl), tt);
       watches = (omega (arith, blocks_sum (λ c. cond (is_watch c) 1 0) 0 x edits (λ y. refl) (λ k. refl) (λ k. refl) refl), tt);
       built = (blocks_all (λ c. has_built_word c ≡ true) edits x edits (λ y. refl) (λ k h. refl) (λ k h. refl) refl (omega arith), tt);
@@ -181,3 +191,6 @@ made_within first edits few =
 
 pub made_without_patterns : (first edits : ℕ) → AllByRecursion (λ cs. patterns_of cs ≡ 0) (made_script first edits 1).sessions
 made_without_patterns first edits = let x : ℕ = state_after (5 * edits * 0) first in (blocks_sum patterns_in 0 x edits (λ y. refl) (λ k. refl) (λ k. refl) refl ∙ (omega arith), tt)
+
+pub made_without_saves : (first edits : ℕ) → AllByRecursion (λ cs. saved_names cs ≡ []) (made_script first edits 1).sessions
+made_without_saves first edits = (unsaved (state_after (5 * edits * 0) first) edits, tt)

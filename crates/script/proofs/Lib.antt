@@ -12,7 +12,7 @@ pub mod Shaped
 pub mod ReadShape
 pub mod CommandTests
 pub mod DocumentPlaces
-mod Openings
+pub mod Openings
 pub mod CommandLoop
 pub mod Documents
 pub mod Apart

@@ -29,7 +29,7 @@ one_of_four false false true d = refl
 one_of_four false false false true = refl
 one_of_four false false false false = refl
 
-encoding_there : (s : List ℕ) → is_one_of encoding_words (Some s) ≡ is_some (encoding_of s)
+pub encoding_there : (s : List ℕ) → is_one_of encoding_words (Some s) ≡ is_some (encoding_of s)
 unfolding encoding_of
 encoding_there s = one_of_four (bytes_eq s (codes "utf8")) (bytes_eq s (codes "utf16le")) (bytes_eq s (codes "utf16be")) (bytes_eq s (codes "latin1"))
 

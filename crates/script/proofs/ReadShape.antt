@@ -1,35 +1,21 @@
 -- The shape of a command that reads a snapshot.
-use Rattle.std.proofs.Common.{◌≡◌, ◌&&◌, ◌||◌, not, ℕ, List, Bool, true, false, Option, Some, None, refl, sym, ap, ◌∙◌}
+use Rattle.std.proofs.Common.{◌≡◌, ◌||◌, not, ℕ, List, Bool, true, false, Option, Some, None, refl, sym, ap, ◌∙◌}
 use Rattle.std.specs.Prelude.{◌==◌, codes}
 use Rattle.script.specs.declared.limits.TheConstants.{MAX_ID}
 use Rattle.script.specs.Parts.{member_count, string_in}
 use Rattle.script.specs.Reading.{read_members_break}
 use Rattle.script.specs.Rows as kind
-use Rattle.script.specs.Rules.{any_item, field_breaks, is_misshapen, is_unbuilt_read, read_breaks, wrong_kind}
+use Rattle.script.specs.Rules.{any_item, field_breaks, is_misshapen, read_breaks, wrong_kind}
 use Rattle.std.specs.Str.{bytes_eq}
 use Rattle.std.proofs.lemmas.Slice.Eq.{bytes_eq-Decides}
-use Rattle.serde_json.specs.Data.{Data, Items, no_items, item}
+use Rattle.serde_json.specs.Data.{Data, Items}
 use Rattle.serde_json.specs.Find.{get, as_array}
 
-four_or : (a b c d : Bool) → ((a || b) || (c || d)) ≡ ((a || c) || (b || d))
-four_or true b c d = refl
-four_or false true true d = refl
-four_or false true false d = refl
-four_or false false c d = refl
-
-any_either : (f g : Data → Bool) (ds : Items) → any_item (λ r. f r || g r) ds ≡ (any_item f ds || any_item g ds)
-any_either f g no_items = refl
-any_either f g (item d ds) = rw (any_either f g ds) (four_or (f d) (g d) (any_item f ds) (any_item g ds))
-
--- what isn't built, told first or last
-told_last : (n s u k : Bool) → ((u && true) || (n || (s || (k || false)))) ≡ (n || (s || (u || k)))
-told_last true s true k = refl
-told_last true s false k = refl
-told_last false true true k = refl
-told_last false true false k = refl
-told_last false false true k = refl
-told_last false false false true = refl
-told_last false false false false = refl
+drop_false : (n s u : Bool) → (n || (s || (u || false))) ≡ (n || (s || u))
+drop_false true s u = refl
+drop_false false true u = refl
+drop_false false false true = refl
+drop_false false false false = refl
 
 -- a `read` or a `send`
 abbrev reading_word : Bool → List ℕ
@@ -41,11 +27,9 @@ by_list : (b : Bool) (d w : Data) (o : Option Items) → string_in (codes "do") 
 by_list true d w None word reads list = rw (word, reads, list) refl
 by_list false d w None word reads list = rw (word, reads, list) refl
 by_list true d w (Some ds) word reads list =
-    rw (word, reads, list, any_either is_unbuilt_read (read_breaks wrong_kind true) ds)
-    (told_last (not (member_count d == 3)) (field_breaks wrong_kind true (kind.whole MAX_ID) (get (codes "snapshot") d)) (any_item is_unbuilt_read ds) (any_item (read_breaks wrong_kind true) ds))
+    rw (word, reads, list) (drop_false (not (member_count d == 3)) (field_breaks wrong_kind true (kind.whole MAX_ID) (get (codes "snapshot") d)) (any_item (read_breaks wrong_kind true) ds))
 by_list false d w (Some ds) word reads list =
-    rw (word, reads, list, any_either is_unbuilt_read (read_breaks wrong_kind true) ds)
-    (told_last (not (member_count d == 3)) (field_breaks wrong_kind true (kind.whole MAX_ID) (get (codes "snapshot") d)) (any_item is_unbuilt_read ds) (any_item (read_breaks wrong_kind true) ds))
+    rw (word, reads, list) (drop_false (not (member_count d == 3)) (field_breaks wrong_kind true (kind.whole MAX_ID) (get (codes "snapshot") d)) (any_item (read_breaks wrong_kind true) ds))
 
 by_member : (b : Bool) (d : Data) (o : Option Data) → string_in (codes "do") d ≡ Some (reading_word b) → get (codes "reads") d ≡ o → is_misshapen false d ≡ read_members_break d
 by_member true d None word reads = rw (word, reads) refl

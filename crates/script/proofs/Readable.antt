@@ -5,9 +5,7 @@ use Rattle.std.proofs.lemmas.Bool.{and_from, eq-eqb}
 use Rattle.machine.specs.declared.command.Command.{Command}
 use Rattle.machine.specs.declared.command.Command.TheVariants as command
 use Rattle.machine.specs.declared.command.Script.{Script}
-use Rattle.machine.specs.declared.reads.Read.{Read}
-use Rattle.machine.specs.declared.reads.Read.TheVariants as read
-use Rattle.script.specs.Limits.{has_built_read, has_built_word, IsReadableRead, IsReadable}
+use Rattle.script.specs.Limits.{has_built_word, IsReadable}
 use Rattle.script.specs.ScriptValue.{is_built}
 
 pub record IsReadableScript (s : Script) : Type 0 where
@@ -18,13 +16,6 @@ pub record IsReadableScript (s : Script) : Type 0 where
 all_hold : {A : Type 0} (P : A → Type 0) (test : A → Bool) → ((x : A) → P x → test x ≡ true) → (xs : List A) → AllByRecursion P xs → list_all test xs ≡ true
 all_hold P test each [] h = refl
 all_hold P test each (x ∷ xs) h = and_from (test x) (list_all test xs) (each x h.0) (all_hold P test each xs h.1)
-
-read_built : (r : Read) → IsReadableRead r → has_built_read r ≡ true
-read_built read.Size h = refl
-read_built (read.Text range limit) h = refl
-read_built (read.Find needle limit) h = refl
-read_built (read.Pattern pattern limit) h = refl
-read_built r h = absurd h
 
 pub command_built : (c : Command) → IsReadable c → has_built_word c ≡ true
 command_built (command.Edit range text) h = refl
@@ -41,8 +32,8 @@ command_built (command.Marks how range) h = refl
 command_built (command.Watch id) h = refl
 command_built (command.Unwatch id) h = refl
 command_built (command.Take snapshot) h = refl
-command_built (command.Read snapshot reads) h = all_hold IsReadableRead has_built_read read_built reads h.1
-command_built (command.Send snapshot reads) h = all_hold IsReadableRead has_built_read read_built reads h.1
+command_built (command.Read snapshot reads) h = refl
+command_built (command.Send snapshot reads) h = refl
 command_built (command.Release snapshot) h = refl
 command_built c h = absurd h
 

@@ -1,6 +1,6 @@
 -- The value of a script of what is built has no place that breaks a rule exactly where no place breaks one by the rules alone; and then
 -- the script is within its limits.
-use Rattle.std.proofs.Common.{◌≡◌, ◌+◌, ◌≤◌, ◌&&◌, ◌||◌, not, ℕ, suc, List, [], ◌∷◌, length, map, drop, count_by, Bool, true, false, cond, Option, Some, None, option_map, is_some, refl, sym, ap, subst, ◌∙◌, arith}
+use Rattle.std.proofs.Common.{◌≡◌, ◌+◌, ◌≤◌, ◌&&◌, ◌||◌, not, ℕ, suc, List, [], ◌∷◌, ◌++◌, length, map, drop, count_by, Bool, true, false, cond, Option, Some, None, option_map, is_some, refl, sym, ap, subst, ◌∙◌, arith, length-append, append_assoc, append-nil}
 use Rattle.std.specs.Prelude.{nat_lt, ◌==◌, codes, sum_by, unwrap_or, IfSome}
 use Rattle.std.specs.List.{AllByRecursion, list_all, list_any}
 use Rattle.std.specs.Option.{option_or}
@@ -12,6 +12,7 @@ use Rattle.points.specs.declared.limits.TheConstants.{MAX_UNITS, MAX_HANDS}
 use Rattle.points.specs.declared.range.Range.{Range}
 use Rattle.points.specs.Text.{utf16_of}
 use Rattle.machine.specs.Answers.{opening_text}
+use Rattle.machine.specs.Lawful.{reads_in}
 use Rattle.machine.specs.Plain as plain
 use Rattle.machine.specs.Plain.{are_live}
 use Rattle.machine.specs.declared.command.Command.{Command}
@@ -23,11 +24,12 @@ use Rattle.machine.specs.declared.reads.Read.{Read}
 use Rattle.machine.specs.declared.reads.Read.TheVariants as read
 use Rattle.script.specs.declared.limits.TheConstants.{MAX_SESSIONS, MAX_COMMANDS, MAX_READINGS, MAX_SAVES, MAX_FINDS, MAX_SHOWN, MAX_HITS, MAX_WATCHES, MAX_ID}
 use Rattle.script.specs.declared.refusal.ScriptRule.{ScriptRule}
-use Rattle.script.specs.declared.refusal.ScriptRule.TheVariants.{BadShape, TooMany, UnknownSnapshot, SnapshotTaken, BadNumber, BadEncoding, EmptyNeedle}
-use Rattle.script.specs.Limits.{has_built_read, has_built_word, IsRangeWithin, IsReadableRead, IsReadable, readings_of, is_find, is_watch, is_in_turn, are_in_turn, has_needle, has_needles, IsWithinLimits}
+use Rattle.script.specs.declared.refusal.ScriptRule.TheVariants.{BadShape, TooMany, UnknownSnapshot, SnapshotTaken, BadNumber, BadEncoding, EmptyNeedle, BadName}
+use Rattle.script.specs.Limits.{has_built_word, IsRangeWithin, IsReadableRead, IsReadable, readings_of, is_find, is_watch, names_among, saved_names, is_in_turn, are_in_turn, has_needle, has_needles, IsWithinLimits}
 use Rattle.script.specs.Parts.{member_count, items_in, count_items, string_in, within, whole_of, range_of}
 use Rattle.script.specs.ScriptDocument.{reading, script_of}
-use Rattle.script.specs.Rules.{Before, at_start, next, command_tests, command_breaks, read_breaks, any_item, wrong_kind, wrong_number, wrong_encoding, empty_needle, is_too_many, readings_in, names_one_of, live_after, one_if, needs_live, is_live, is_do, document_tests, Fault, first_broken, fault_at, is_document, is_version_one, opening_breaks, are_sessions, sessions_in, opened_text, place_in_session, place_in_sessions, after_commands, place_by, built_place, value_place, is_unbuilt, is_unbuilt_read, is_misshapen, is_misshapen_document, is_unbuilt_document}
+use Rattle.script.specs.Rules as rules
+use Rattle.script.specs.Rules.{Before, at_start, next, command_tests, command_breaks, read_breaks, any_item, wrong_kind, wrong_number, wrong_encoding, empty_needle, wrong_name, names_in, is_among, is_again, is_too_many, readings_in, names_one_of, live_after, one_if, needs_live, is_live, is_do, document_tests, Fault, first_broken, fault_at, is_document, is_version_one, opening_breaks, are_sessions, sessions_in, opened_text, place_in_session, place_in_sessions, after_commands, place_by, built_place, value_place, is_unbuilt, is_misshapen, is_misshapen_document, is_unbuilt_document}
 use Rattle.script.specs.ScriptValue.{range_value, read_value, command_value, opening_value, script_value, is_built, BreaksNoRule}
 use Rattle.script.specs.TranscriptDocument.{whole}
 use Rattle.script.proofs.KeyOrder.{IsInKeyOrder}
@@ -113,19 +115,6 @@ place_more d h =
 
 -- ---- a command of what is built
 
-read_is_built : (r : Read) → has_built_read r ≡ true → is_unbuilt_read (read_value r) ≡ false
-read_is_built read.Size h = refl
-read_is_built (read.Text range limit) h = refl
-read_is_built (read.Find needle limit) h = refl
-read_is_built (read.Pattern pattern limit) h = refl
-read_is_built r h = absurd (false≢true h)
-
-reads_are_built : (rs : List Read) → list_all has_built_read rs ≡ true → any_item is_unbuilt_read (items_of (map read_value rs)) ≡ false
-reads_are_built [] h = refl
-reads_are_built (r ∷ rs) h =
-    let parts = and_parts (has_built_read r) (list_all has_built_read rs) h in
-    rw (read_is_built r parts.0) (reads_are_built rs parts.1)
-
 command_is_built : (c : Command) → has_built_word c ≡ true → is_unbuilt (command_value c) ≡ false
 command_is_built (command.Edit range text) h = refl
 command_is_built (command.Text range limit) h = refl
@@ -141,8 +130,8 @@ command_is_built (command.Marks how range) h = refl
 command_is_built (command.Watch id) h = refl
 command_is_built (command.Unwatch id) h = refl
 command_is_built (command.Take k) h = refl
-command_is_built (command.Read k reads) h = reads_are_built reads h
-command_is_built (command.Send k reads) h = reads_are_built reads h
+command_is_built (command.Read k reads) h = refl
+command_is_built (command.Send k reads) h = refl
 command_is_built (command.Release k) h = refl
 command_is_built c h = absurd (false≢true h)
 
@@ -165,6 +154,7 @@ record ArePassed (b : Before) (d : Data) : Type 0 where
   taken : (is_do (codes "take") d && is_live b d) ≡ false
   number : command_breaks wrong_number false d ≡ false
   needle : command_breaks empty_needle false d ≡ false
+  name : is_again b.names (names_in (rules.reads_in d)) ≡ false
 
 tests_passed : (b : Before) (d : Data) → first_broken (command_tests false b d) ≡ None → ArePassed b d
 tests_passed b d h =
@@ -176,7 +166,8 @@ tests_passed b d h =
     let number = first_passes (command_breaks wrong_number false d) BadNumber (drop 5 ts) taken.1 in
     let encoding = first_passes (command_breaks wrong_encoding false d) BadEncoding (drop 6 ts) number.1 in
     let needle = first_passes (command_breaks empty_needle false d) EmptyNeedle (drop 7 ts) encoding.1 in
-    record { many = many.0; unknown = unknown.0; taken = taken.0; number = number.0; needle = needle.0 }
+    let name = first_passes (command_breaks wrong_name false d || is_again b.names (names_in (rules.reads_in d))) BadName [] needle.1 in
+    record { many = many.0; unknown = unknown.0; taken = taken.0; number = number.0; needle = needle.0; name = (or_false (command_breaks wrong_name false d) (is_again b.names (names_in (rules.reads_in d))) name.0).1 }
 
 range_back : (r : Range) → not (is_some (range_of (range_value r))) ≡ false → IsRangeWithin r
 range_back r e =
@@ -205,19 +196,18 @@ whole_first limit n rest e = let parts = or_false (not (is_some (whole_of limit 
 range_first : (r : Range) (rest : Bool) → (not (is_some (range_of (range_value r))) || rest) ≡ false → IsRangeWithin r × (rest ≡ false)
 range_first r rest e = let parts = or_false (not (is_some (range_of (range_value r)))) rest e in (range_back r parts.0, parts.1)
 
-read_readable : (r : Read) → has_built_read r ≡ true → read_breaks wrong_number false (read_value r) ≡ false → IsReadableRead r
-read_readable read.Size built e = tt
-read_readable (read.Text range limit) built e = let first = range_first range _ e in (first.0, (whole_first MAX_SHOWN limit false first.1).0)
-read_readable (read.Find needle limit) built e = (whole_first MAX_HITS limit false e).0
-read_readable (read.Pattern pattern limit) built e = (whole_first MAX_HITS limit false e).0
-read_readable r built e = absurd (false≢true built)
+read_readable : (r : Read) → read_breaks wrong_number false (read_value r) ≡ false → IsReadableRead r
+read_readable read.Size e = tt
+read_readable (read.Text range limit) e = let first = range_first range _ e in (first.0, (whole_first MAX_SHOWN limit false first.1).0)
+read_readable (read.Find needle limit) e = (whole_first MAX_HITS limit false e).0
+read_readable (read.Pattern pattern limit) e = (whole_first MAX_HITS limit false e).0
+read_readable (read.Save name encoding) e = tt
 
-reads_readable : (rs : List Read) → list_all has_built_read rs ≡ true → any_item (read_breaks wrong_number false) (items_of (map read_value rs)) ≡ false → AllByRecursion IsReadableRead rs
-reads_readable [] built e = tt
-reads_readable (r ∷ rs) built e =
-    let words = and_parts (has_built_read r) (list_all has_built_read rs) built in
+reads_readable : (rs : List Read) → any_item (read_breaks wrong_number false) (items_of (map read_value rs)) ≡ false → AllByRecursion IsReadableRead rs
+reads_readable [] e = tt
+reads_readable (r ∷ rs) e =
     let parts = or_false (read_breaks wrong_number false (read_value r)) (any_item (read_breaks wrong_number false) (items_of (map read_value rs))) e in
-    (read_readable r words.0 parts.0, reads_readable rs words.1 parts.1)
+    (read_readable r parts.0, reads_readable rs parts.1)
 
 readable : (c : Command) → has_built_word c ≡ true → command_breaks wrong_number false (command_value c) ≡ false → IsReadable c
 readable (command.Edit range text) built e = (range_first range false e).0
@@ -236,29 +226,28 @@ readable (command.Unwatch id) built e = (whole_first MAX_ID id false e).0
 readable (command.Take k) built e = (whole_first MAX_ID k false e).0
 readable (command.Read k reads) built e =
     let first = whole_first MAX_ID k _ e in
-    (first.0, reads_readable reads built (or_false (any_item (read_breaks wrong_number false) (items_of (map read_value reads))) false first.1).0)
+    (first.0, reads_readable reads (or_false (any_item (read_breaks wrong_number false) (items_of (map read_value reads))) false first.1).0)
 readable (command.Send k reads) built e =
     let first = whole_first MAX_ID k _ e in
-    (first.0, reads_readable reads built (or_false (any_item (read_breaks wrong_number false) (items_of (map read_value reads))) false first.1).0)
+    (first.0, reads_readable reads (or_false (any_item (read_breaks wrong_number false) (items_of (map read_value reads))) false first.1).0)
 readable (command.Release k) built e = (whole_first MAX_ID k false e).0
 readable c built e = absurd (false≢true built)
 
-needle_there : (r : Read) → has_built_read r ≡ true → read_breaks empty_needle false (read_value r) ≡ false → has_needle r ≡ true
-needle_there (read.Find [] limit) built e = absurd (false≢true (sym e))
-needle_there (read.Find (b ∷ bytes) limit) built e = let some_units : (length (b ∷ bytes) == 0) ≡ false = ne_eqb (length (b ∷ bytes)) 0 (λ h. omega (arith, h)) in rw some_units refl
-needle_there r built e = refl
+needle_there : (r : Read) → read_breaks empty_needle false (read_value r) ≡ false → has_needle r ≡ true
+needle_there (read.Find [] limit) e = absurd (false≢true (sym e))
+needle_there (read.Find (b ∷ bytes) limit) e = let some_units : (length (b ∷ bytes) == 0) ≡ false = ne_eqb (length (b ∷ bytes)) 0 (λ h. omega (arith, h)) in rw some_units refl
+needle_there r e = refl
 
-needles_there : (rs : List Read) → list_all has_built_read rs ≡ true → any_item (read_breaks empty_needle false) (items_of (map read_value rs)) ≡ false → list_all has_needle rs ≡ true
-needles_there [] built e = refl
-needles_there (r ∷ rs) built e =
-    let words = and_parts (has_built_read r) (list_all has_built_read rs) built in
+needles_there : (rs : List Read) → any_item (read_breaks empty_needle false) (items_of (map read_value rs)) ≡ false → list_all has_needle rs ≡ true
+needles_there [] e = refl
+needles_there (r ∷ rs) e =
     let parts = or_false (read_breaks empty_needle false (read_value r)) (any_item (read_breaks empty_needle false) (items_of (map read_value rs))) e in
-    and_from (has_needle r) (list_all has_needle rs) (needle_there r words.0 parts.0) (needles_there rs words.1 parts.1)
+    and_from (has_needle r) (list_all has_needle rs) (needle_there r parts.0) (needles_there rs parts.1)
 
-needles : (c : Command) → has_built_word c ≡ true → command_breaks empty_needle false (command_value c) ≡ false → has_needles c ≡ true
-needles (command.Read k reads) built e = needles_there reads built (or_false (any_item (read_breaks empty_needle false) (items_of (map read_value reads))) false e).0
-needles (command.Send k reads) built e = needles_there reads built (or_false (any_item (read_breaks empty_needle false) (items_of (map read_value reads))) false e).0
-needles c built e = refl
+needles : (c : Command) → command_breaks empty_needle false (command_value c) ≡ false → has_needles c ≡ true
+needles (command.Read k reads) e = needles_there reads (or_false (any_item (read_breaks empty_needle false) (items_of (map read_value reads))) false e).0
+needles (command.Send k reads) e = needles_there reads (or_false (any_item (read_breaks empty_needle false) (items_of (map read_value reads))) false e).0
+needles c e = refl
 
 -- ---- what a command counts
 
@@ -267,6 +256,7 @@ record IsCounted (b : Before) (c : Command) : Type 0 where
   reading : readings_in (command_value c) ≡ readings_of c
   finds : is_do (codes "marks") (command_value c) ≡ is_find c
   watches : is_do (codes "watch") (command_value c) ≡ is_watch c
+  names : names_in (rules.reads_in (command_value c)) ≡ names_among (reads_in c)
   live : live_after b.live (command_value c) ≡ plain.live_after c b.live
   turn : (needs_live (command_value c) && not (is_live b (command_value c))) ≡ false → (is_do (codes "take") (command_value c) && is_live b (command_value c)) ≡ false
       → (is_do (codes "take") (command_value c) && nat_lt MAX_HANDS (b.peaks + length b.live + 1)) ≡ false → is_in_turn b.live c ≡ true
@@ -278,6 +268,14 @@ items_counted : (rs : List Read) → count_items (items_of (map read_value rs)) 
 items_counted [] = refl
 items_counted (r ∷ rs) = ap suc (items_counted rs)
 
+names_are : (rs : List Read) → names_in (items_of (map read_value rs)) ≡ names_among rs
+names_are [] = refl
+names_are (read.Size ∷ rs) = names_are rs
+names_are (read.Text range limit ∷ rs) = names_are rs
+names_are (read.Find needle limit ∷ rs) = names_are rs
+names_are (read.Pattern pattern limit ∷ rs) = names_are rs
+names_are (read.Save name encoding ∷ rs) = ap (λ names. name ∷ names) (names_are rs)
+
 named : (b : Before) (k : ℕ) → k ≤ MAX_ID → names_one_of b.live (within MAX_ID k) ≡ list_any (λ m. m == k) b.live
 named b k h = rw (le-leb k MAX_ID h) refl
 
@@ -285,41 +283,42 @@ took : (b : Before) (k : ℕ) → k ≤ MAX_ID → names_one_of b.live (within M
 took b k h fresh hands = rw (sym (named b k h) ∙ fresh, hand_left b.peaks (length b.live) hands) refl
 
 counted : (b : Before) (c : Command) → IsReadable c → IsCounted b c
-counted b (command.Edit range text) h = record { reading = refl; finds = refl; watches = refl; live = refl; turn = λ unknown taken hands. refl }
-counted b (command.Text range limit) h = record { reading = refl; finds = refl; watches = refl; live = refl; turn = λ unknown taken hands. refl }
-counted b command.Undo h = record { reading = refl; finds = refl; watches = refl; live = refl; turn = λ unknown taken hands. refl }
-counted b command.Redo h = record { reading = refl; finds = refl; watches = refl; live = refl; turn = λ unknown taken hands. refl }
-counted b command.Squash h = record { reading = refl; finds = refl; watches = refl; live = refl; turn = λ unknown taken hands. refl }
-counted b (command.Unmark id) h = record { reading = refl; finds = refl; watches = refl; live = refl; turn = λ unknown taken hands. refl }
-counted b (command.Range id) h = record { reading = refl; finds = refl; watches = refl; live = refl; turn = λ unknown taken hands. refl }
-counted b (command.Exclusive id value) h = record { reading = refl; finds = refl; watches = refl; live = refl; turn = λ unknown taken hands. refl }
-counted b (command.Compare x y) h = record { reading = refl; finds = refl; watches = refl; live = refl; turn = λ unknown taken hands. refl }
-counted b (command.Mark id range exclusive) h = record { reading = refl; finds = refl; watches = refl; live = refl; turn = λ unknown taken hands. refl }
-counted b (command.Marks how range) h = record { reading = refl; finds = refl; watches = refl; live = refl; turn = λ unknown taken hands. refl }
-counted b (command.Watch id) h = record { reading = refl; finds = refl; watches = refl; live = refl; turn = λ unknown taken hands. refl }
-counted b (command.Unwatch id) h = record { reading = refl; finds = refl; watches = refl; live = refl; turn = λ unknown taken hands. refl }
-counted b (command.Take k) h = record { reading = refl; finds = refl; watches = refl; live = rw (le-leb k MAX_ID h) refl; turn = λ unknown taken hands. took b k h taken hands }
+counted b (command.Edit range text) h = record { reading = refl; finds = refl; watches = refl; names = refl; live = refl; turn = λ unknown taken hands. refl }
+counted b (command.Text range limit) h = record { reading = refl; finds = refl; watches = refl; names = refl; live = refl; turn = λ unknown taken hands. refl }
+counted b command.Undo h = record { reading = refl; finds = refl; watches = refl; names = refl; live = refl; turn = λ unknown taken hands. refl }
+counted b command.Redo h = record { reading = refl; finds = refl; watches = refl; names = refl; live = refl; turn = λ unknown taken hands. refl }
+counted b command.Squash h = record { reading = refl; finds = refl; watches = refl; names = refl; live = refl; turn = λ unknown taken hands. refl }
+counted b (command.Unmark id) h = record { reading = refl; finds = refl; watches = refl; names = refl; live = refl; turn = λ unknown taken hands. refl }
+counted b (command.Range id) h = record { reading = refl; finds = refl; watches = refl; names = refl; live = refl; turn = λ unknown taken hands. refl }
+counted b (command.Exclusive id value) h = record { reading = refl; finds = refl; watches = refl; names = refl; live = refl; turn = λ unknown taken hands. refl }
+counted b (command.Compare x y) h = record { reading = refl; finds = refl; watches = refl; names = refl; live = refl; turn = λ unknown taken hands. refl }
+counted b (command.Mark id range exclusive) h = record { reading = refl; finds = refl; watches = refl; names = refl; live = refl; turn = λ unknown taken hands. refl }
+counted b (command.Marks how range) h = record { reading = refl; finds = refl; watches = refl; names = refl; live = refl; turn = λ unknown taken hands. refl }
+counted b (command.Watch id) h = record { reading = refl; finds = refl; watches = refl; names = refl; live = refl; turn = λ unknown taken hands. refl }
+counted b (command.Unwatch id) h = record { reading = refl; finds = refl; watches = refl; names = refl; live = refl; turn = λ unknown taken hands. refl }
+counted b (command.Take k) h = record { reading = refl; finds = refl; watches = refl; names = refl; live = rw (le-leb k MAX_ID h) refl; turn = λ unknown taken hands. took b k h taken hands }
 counted b (command.Read k reads) h =
-    record { reading = omega (arith, items_counted reads); finds = refl; watches = refl; live = refl; turn = λ unknown taken hands. sym (named b k h.0) ∙ not-false (names_one_of b.live (within MAX_ID k)) unknown }
+    record { reading = omega (arith, items_counted reads); finds = refl; watches = refl; names = names_are reads; live = refl; turn = λ unknown taken hands. sym (named b k h.0) ∙ not-false (names_one_of b.live (within MAX_ID k)) unknown }
 counted b (command.Send k reads) h =
-    record { reading = omega (arith, items_counted reads); finds = refl; watches = refl; live = rw (le-leb k MAX_ID h.0) refl; turn = λ unknown taken hands. sym (named b k h.0) ∙ not-false (names_one_of b.live (within MAX_ID k)) unknown }
+    record { reading = omega (arith, items_counted reads); finds = refl; watches = refl; names = names_are reads; live = rw (le-leb k MAX_ID h.0) refl; turn = λ unknown taken hands. sym (named b k h.0) ∙ not-false (names_one_of b.live (within MAX_ID k)) unknown }
 counted b (command.Release k) h =
-    record { reading = refl; finds = refl; watches = refl; live = rw (le-leb k MAX_ID h) refl; turn = λ unknown taken hands. sym (named b k h) ∙ not-false (names_one_of b.live (within MAX_ID k)) unknown }
+    record { reading = refl; finds = refl; watches = refl; names = refl; live = rw (le-leb k MAX_ID h) refl; turn = λ unknown taken hands. sym (named b k h) ∙ not-false (names_one_of b.live (within MAX_ID k)) unknown }
 counted b c h = absurd h
 
-six_false : (a b c d e f : Bool) → (a || b || c || d || e || f) ≡ false → (a ≡ false) × (b ≡ false) × (d ≡ false) × (e ≡ false) × (f ≡ false)
+six_false : (a b c d e f : Bool) → (a || b || c || d || e || f) ≡ false → (a ≡ false) × (b ≡ false) × (c ≡ false) × (d ≡ false) × (e ≡ false) × (f ≡ false)
 six_false true b c d e f h = absurd (false≢true (sym h))
 six_false false true c d e f h = absurd (false≢true (sym h))
 six_false false false true d e f h = absurd (false≢true (sym h))
 six_false false false false true e f h = absurd (false≢true (sym h))
 six_false false false false false true f h = absurd (false≢true (sym h))
 six_false false false false false false true h = absurd (false≢true (sym h))
-six_false false false false false false false h = (refl, refl, refl, refl, refl)
+six_false false false false false false false h = (refl, refl, refl, refl, refl, refl)
 
 -- few enough of everything
 record IsRoomy (b : Before) : Type 0 where
   commands : b.commands ≤ MAX_COMMANDS
   reading : b.reading ≤ MAX_READINGS
+  saves : length b.names ≤ MAX_SAVES
   finds : b.marks ≤ MAX_FINDS
   watches : b.watches ≤ MAX_WATCHES
 
@@ -327,14 +326,24 @@ room_after : (b : Before) (d : Data) → is_too_many b d ≡ false → IsRoomy (
 room_after b d h =
     let parts = six_false (nat_lt MAX_COMMANDS (next b d).commands) (nat_lt MAX_READINGS (next b d).reading) (nat_lt MAX_SAVES (length (next b d).names)) (nat_lt MAX_FINDS (next b d).marks) (nat_lt MAX_WATCHES (next b d).watches)
     (is_do (codes "take") d && nat_lt MAX_HANDS (b.peaks + length b.live + 1)) h in
-    (record { commands = ltb-false _ _ parts.0; reading = ltb-false _ _ parts.1; finds = ltb-false _ _ parts.2; watches = ltb-false _ _ parts.3 }, parts.4)
+    (record { commands = ltb-false _ _ parts.0; reading = ltb-false _ _ parts.1; saves = ltb-false _ _ parts.2; finds = ltb-false _ _ parts.3; watches = ltb-false _ _ parts.4 }, parts.5)
 
 -- ---- the commands of a session
+
+-- names in two parts
+again-append : (there xs ys : List (List ℕ)) → is_again there xs ≡ false → is_again (there ++ xs) ys ≡ false → is_again there (xs ++ ys) ≡ false
+again-append there [] ys one more = subst (λ names. is_again names ys ≡ false) (append-nil there) more
+again-append there (x ∷ xs) ys one more =
+    let parts = or_false (is_among there x) (is_again (there ++ x ∷ []) xs) one in
+    let rest = again-append (there ++ x ∷ []) xs ys parts.1 (subst (λ names. is_again names ys ≡ false) (sym (append_assoc there (x ∷ []) xs)) more) in
+    rw (parts.0, rest) refl
 
 record IsSessionWithin (b : Before) (cs : List Command) : Type 0 where
   readable : AllByRecursion IsReadable cs
   commands : b.commands + length cs ≤ MAX_COMMANDS
   readings : b.reading + sum_by readings_of cs ≤ MAX_READINGS
+  saves : length b.names + length (saved_names cs) ≤ MAX_SAVES
+  apart : is_again b.names (saved_names cs) ≡ false
   finds : b.marks + count_by is_find cs ≤ MAX_FINDS
   watches : b.watches + count_by is_watch cs ≤ MAX_WATCHES
   needles : AllByRecursion (λ c. has_needles c ≡ true) cs
@@ -342,7 +351,7 @@ record IsSessionWithin (b : Before) (cs : List Command) : Type 0 where
 
 session_within : (session n : ℕ) (b : Before) (cs : List Command) → list_all has_built_word cs ≡ true → IsRoomy b → place_in_session false session n b (items_of (map command_value cs)) ≡ None → IsSessionWithin b cs
 session_within session n b [] built roomy e =
-    record { readable = tt; commands = omega (arith, roomy.commands); readings = omega (arith, roomy.reading); finds = omega (arith, roomy.finds); watches = omega (arith, roomy.watches); needles = tt; turns = refl }
+    record { readable = tt; commands = omega (arith, roomy.commands); readings = omega (arith, roomy.reading); saves = omega (arith, roomy.saves); apart = refl; finds = omega (arith, roomy.finds); watches = omega (arith, roomy.watches); needles = tt; turns = refl }
 session_within session n b (c ∷ cs) built roomy e =
     let d = command_value c in
     let words = and_parts (has_built_word c) (list_all has_built_word cs) built in
@@ -352,15 +361,21 @@ session_within session n b (c ∷ cs) built roomy e =
     let is = counted b c own in
     let room = room_after b d passed.many in
     let rest = session_within session (n + 1) (next b d) cs words.1 room.0 parts.1 in
+    let names = names_among (reads_in c) in
+    let own_names : is_again b.names names ≡ false = subst (λ ns. is_again b.names ns ≡ false) is.names passed.name in
+    let other_names : is_again (b.names ++ names) (saved_names cs) ≡ false = subst (λ ns. is_again (b.names ++ ns) (saved_names cs) ≡ false) is.names rest.apart in
+    let saves : length (b.names ++ names) + length (saved_names cs) ≤ MAX_SAVES = subst (λ ns. length (b.names ++ ns) + length (saved_names cs) ≤ MAX_SAVES) is.names rest.saves in
     let find : one_if (is_do (codes "marks") d) ≡ cond (is_find c) 1 0 = ap one_if is.finds in
     let watch : one_if (is_do (codes "watch") d) ≡ cond (is_watch c) 1 0 = ap one_if is.watches in
     record {
       readable = (own, rest.readable);
       commands = omega (arith, rest.commands);
       readings = omega (arith, rest.readings, is.reading, sum_by-cons readings_of c cs);
+      saves = omega (arith, saves, length-append b.names names, length-append names (saved_names cs));
+      apart = again-append b.names names (saved_names cs) own_names other_names;
       finds = omega (arith, rest.finds, find, sum_by-cons (λ x. cond (is_find x) 1 0) c cs);
       watches = omega (arith, rest.watches, watch, sum_by-cons (λ x. cond (is_watch x) 1 0) c cs);
-      needles = (needles c words.0 passed.needle, rest.needles);
+      needles = (needles c passed.needle, rest.needles);
       turns = and_from (is_in_turn b.live c) (are_in_turn (plain.live_after c b.live) cs) (is.turn passed.unknown passed.taken room.1) (subst (λ live. are_in_turn live cs ≡ true) is.live rest.turns);
     }
 
@@ -431,7 +446,7 @@ parts_within n o (cs ∷ []) of h =
     let version : (n == 1) ≡ true = version_is_one d (not-false (is_document d) (or_false (is_unbuilt_document d && true) (not (is_document d)) document.0).1) in
     let session = neither (place_in_session false 1 1 at_start (items_of (map command_value cs))) None own.1 in
     let words = (and_parts (list_all has_built_word cs) true of.words).0 in
-    let roomy : IsRoomy at_start = record { commands = omega arith; reading = omega arith; finds = omega arith; watches = omega arith } in
+    let roomy : IsRoomy at_start = record { commands = omega arith; reading = omega arith; saves = omega arith; finds = omega arith; watches = omega arith } in
     let is = session_within 1 1 at_start cs words roomy session.0 in
     let all : AllByRecursion (AllByRecursion IsReadable) (cs ∷ []) = (is.readable, tt) in (
       record { version = eqb-true n 1 version; one = refl; commands = all },
@@ -441,6 +456,8 @@ parts_within n o (cs ∷ []) of h =
         opening = opening_short o (ltb-false _ _ document.1);
         commands = (omega (arith, is.commands), tt);
         readings = (omega (arith, is.readings), tt);
+        saves = (omega (arith, is.saves), tt);
+        apart = (is.apart, tt);
         finds = (omega (arith, is.finds), tt);
         watches = (omega (arith, is.watches), tt);
         built = each_built (cs ∷ []) all;

@@ -146,13 +146,22 @@ unknown_encoding : place (object (with (codes "file") (string (codes "a")) (with
 unfolding place place_by range_of chars
 unknown_encoding = refl
 
--- The same command by what is built: a read that isn't breaks the rule of shape, before a number that isn't live.
+-- The same command by what is built.
 built_broken : Data → Option ScriptRule
 built_broken d = first_broken (command_tests false (record at_start { live = 7 ∷ [] }) d)
 
-save_is_unbuilt : built_broken (reading 8 (item (save (codes "a") (codes "utf8")) no_items)) ≡ Some BadShape
+save_is_built : built_broken (reading 7 (item (save (codes "a") (codes "utf8")) no_items)) ≡ None
 unfolding built_broken range_of
-save_is_unbuilt = refl
+save_is_built = refl
+
+-- numbers come before encodings, whichever read has them
+number_before_encoding : built_broken (reading 7 (item (save (codes "a") (codes "ascii")) (item (find (codes "b") 1001) no_items))) ≡ Some BadNumber
+unfolding built_broken range_of
+number_before_encoding = refl
+
+saved_twice : built_broken (reading 7 (item (save (codes "a") (codes "utf8")) (item (save (codes "a") (codes "latin1")) no_items))) ≡ Some BadName
+unfolding built_broken range_of
+saved_twice = refl
 
 find_is_built : built_broken (reading 7 (item (find (codes "b") 1000) no_items)) ≡ None
 unfolding built_broken range_of

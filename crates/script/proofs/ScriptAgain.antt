@@ -19,7 +19,7 @@ use Rattle.machine.specs.declared.reads.Encoding.TheVariants as encoding
 use Rattle.script.specs.Limits.{IsRangeWithin, IsReadableRead, IsReadable}
 use Rattle.script.specs.declared.limits.TheConstants.{MAX_SHOWN, MAX_HITS, MAX_ID}
 use Rattle.script.specs.Parts.{within, coordinate, point_from, range_of}
-use Rattle.script.specs.ScriptDocument.{edit_of, look_of, ranged_of, bare_of, unmark_of, mark_range_of, exclusive_of, compare_of, mark_of, how_of, marks_of, watch_of, unwatch_of, on_marks_of, size_of, look_read_of, find_of, pattern_of, read_of, reads_of, take_of, asking_of, release_of, on_snapshots_of, on_text_of, command_of, commands_of, session_of, sessions_of, encoding_of, text_opening_of, file_opening_of, opening_of, reading}
+use Rattle.script.specs.ScriptDocument.{edit_of, look_of, ranged_of, bare_of, unmark_of, mark_range_of, exclusive_of, compare_of, mark_of, how_of, marks_of, watch_of, unwatch_of, on_marks_of, size_of, look_read_of, find_of, pattern_of, save_of, read_of, reads_of, take_of, asking_of, release_of, on_snapshots_of, on_text_of, command_of, commands_of, session_of, sessions_of, encoding_of, text_opening_of, file_opening_of, opening_of, reading}
 use Rattle.script.specs.ScriptValue.{encoding_word, how_word, read_value, range_value, command_value, session_value, opening_value, script_value}
 use Rattle.script.specs.TranscriptDocument.{list_value}
 use Rattle.script.proofs.Counting.{range_in_order}
@@ -50,13 +50,20 @@ how_again how.StartingAt = refl
 how_again how.EndingIn = refl
 how_again how.EndingAt = refl
 
+encoding_again : (e : Encoding) → encoding_of (encoding_word e) ≡ Some e
+unfolding encoding_of
+encoding_again encoding.Utf8 = refl
+encoding_again encoding.Utf16Le = refl
+encoding_again encoding.Utf16Be = refl
+encoding_again encoding.Latin1 = refl
+
 read_again : (r : Read) → IsReadableRead r → read_of (read_value r) ≡ Some r
-unfolding read_of size_of look_read_of find_of pattern_of
+unfolding read_of size_of look_read_of find_of pattern_of save_of
 read_again read.Size h = refl
 read_again (read.Text range limit) h = rw (range_again range h.0, le-leb limit MAX_SHOWN h.1) refl
 read_again (read.Find needle limit) h = rw (le-leb limit MAX_HITS h) refl
 read_again (read.Pattern pattern limit) h = rw (le-leb limit MAX_HITS h) refl
-read_again r h = absurd h
+read_again (read.Save name e) h = rw (encoding_again e) refl
 
 reads_again : (rs : List Read) → AllByRecursion IsReadableRead rs → reads_of (items_of (map read_value rs)) ≡ Some rs
 reads_again [] h = refl
@@ -96,13 +103,6 @@ unfolding sessions_of
 sessions_again [] one h = absurd (omega arith)
 sessions_again (cs ∷ []) one h = rw (session_again cs h.0) refl
 sessions_again (cs ∷ ds ∷ rest) one h = absurd (omega arith)
-
-encoding_again : (e : Encoding) → encoding_of (encoding_word e) ≡ Some e
-unfolding encoding_of
-encoding_again encoding.Utf8 = refl
-encoding_again encoding.Utf16Le = refl
-encoding_again encoding.Utf16Be = refl
-encoding_again encoding.Latin1 = refl
 
 opening_again : (o : Opening) → opening_of (opening_value o) ≡ Some o
 unfolding opening_of text_opening_of file_opening_of

@@ -23,7 +23,7 @@ use Rattle.machine.specs.declared.reads.Encoding.TheVariants as encoding
 use Rattle.points.specs.declared.limits.TheConstants.{MAX_COORD}
 use Rattle.script.specs.Limits.{IsRangeWithin, IsReadableRead, IsReadable}
 use Rattle.script.specs.declared.limits.TheConstants.{MAX_SHOWN, MAX_HITS, MAX_ID}
-use Rattle.script.specs.ScriptDocument.{edit_of, look_of, ranged_of, bare_of, unmark_of, mark_range_of, exclusive_of, compare_of, mark_of, how_of, marks_of, watch_of, unwatch_of, on_marks_of, size_of, look_read_of, find_of, pattern_of, read_of, reads_of, take_of, listed_reads, asking_of, release_of, on_snapshots_of, on_text_of, command_of, commands_of, session_of, sessions_of, encoding_of, encoding_in, text_opening_of, file_opening_of, opening_of, reading}
+use Rattle.script.specs.ScriptDocument.{edit_of, look_of, ranged_of, bare_of, unmark_of, mark_range_of, exclusive_of, compare_of, mark_of, how_of, marks_of, watch_of, unwatch_of, on_marks_of, size_of, look_read_of, find_of, pattern_of, save_of, read_of, reads_of, take_of, listed_reads, asking_of, release_of, on_snapshots_of, on_text_of, command_of, commands_of, session_of, sessions_of, encoding_of, encoding_in, text_opening_of, file_opening_of, opening_of, reading}
 use Rattle.script.specs.Parts.{member_count, item_count, string_in, whole_of, whole_in, flag_in, coordinate, point_from, range_by, range_between, range_of, range_in, is_word}
 use Rattle.script.specs.Rules.{is_on_marks, is_on_snapshots, is_version_one, is_one}
 use Rattle.script.specs.ScriptValue.{encoding_word, how_word, read_value, range_value, command_value, session_value, opening_value, script_value}
@@ -487,6 +487,28 @@ pattern_exact d r sorted word e =
     let z = string_exact p.third s (subst (λ v. string_in (codes "pattern") v ≡ Some s) p.is s_is) in
     subst (λ v. (d ≡ read_value v) × IsReadableRead v) is (three_made (codes "get") (codes "limit") (codes "pattern") d p _ _ _ x y.0 z, y.1)))
 
+-- the word of an encoding
+encoding_exact : (s : List ℕ) (e : Encoding) → encoding_of s ≡ Some e → s ≡ encoding_word e
+unfolding encoding_of
+encoding_exact s e h =
+    word_step encoding_word s (codes "utf8") encoding.Utf8 e _ h refl (λ h.
+    word_step encoding_word s (codes "utf16le") encoding.Utf16Le e _ h refl (λ h.
+    word_step encoding_word s (codes "utf16be") encoding.Utf16Be e _ h refl (λ h.
+    word_step encoding_word s (codes "latin1") encoding.Latin1 e _ h refl (λ h. absurd (none-some e h)))))
+
+save_exact : (d : Data) (r : Read) → IsInKeyOrder d → string_in (codes "get") d ≡ Some (codes "save") → save_of d ≡ Some r → (d ≡ read_value r) × IsReadableRead r
+unfolding save_of
+save_exact d r sorted word e =
+    let t = test_some (member_count d == 3) _ r e in
+    option_and_then_some (λ e. option_map (λ name. read.Save name e) (string_in (codes "name") d)) (encoding_in d) r t.1 (λ e e_is rest.
+    behind_map (λ name. read.Save name e) (string_in (codes "name") d) r rest (λ name name_is is.
+    option_and_then_some encoding_of (string_in (codes "encoding") d) e e_is (λ s s_is s_e.
+    let p = three_of (codes "encoding") (codes "get") (codes "name") d ((refl, (refl, tt)), ((refl, tt), (tt, tt))) sorted (eqb-true (member_count d) 3 t.0) (there as_str _ _ s_is) (there as_str _ _ word) (there as_str _ _ name_is) in
+    let x = string_exact p.first s (subst (λ v. string_in (codes "encoding") v ≡ Some s) p.is s_is) in
+    let y = string_exact p.second (codes "save") (subst (λ v. string_in (codes "get") v ≡ Some (codes "save")) p.is word) in
+    let z = string_exact p.third name (subst (λ v. string_in (codes "name") v ≡ Some name) p.is name_is) in
+    subst (λ v. (d ≡ read_value v) × IsReadableRead v) is (three_made (codes "encoding") (codes "get") (codes "name") d p _ _ _ (x ∙ ap string (encoding_exact s e s_e)) y z, tt))))
+
 read_exact : (d : Data) (r : Read) → IsInKeyOrder d → read_of d ≡ Some r → (d ≡ read_value r) × IsReadableRead r
 unfolding read_of
 read_exact d r sorted e =
@@ -496,7 +518,10 @@ read_exact d r sorted e =
         | inl is ↦ look_read_exact d r sorted (word_exact _ _ is.0) is.1
         | inr rest2 ↦ elim (either_some (is_word (string_in (codes "get") d) (codes "find")) (find_of d) _ r rest2) [
           | inl is ↦ find_exact d r sorted (word_exact _ _ is.0) is.1
-          | inr rest3 ↦ let is = test_some (is_word (string_in (codes "get") d) (codes "pattern")) (pattern_of d) r rest3 in pattern_exact d r sorted (word_exact _ _ is.0) is.1
+          | inr rest3 ↦ elim (either_some (is_word (string_in (codes "get") d) (codes "pattern")) (pattern_of d) _ r rest3) [
+            | inl is ↦ pattern_exact d r sorted (word_exact _ _ is.0) is.1
+            | inr rest4 ↦ let is = test_some (is_word (string_in (codes "get") d) (codes "save")) (save_of d) r rest4 in save_exact d r sorted (word_exact _ _ is.0) is.1
+          ]
         ]
       ]
     ]
@@ -606,15 +631,6 @@ text_opening_exact d o sorted e =
     let part = one_of (codes "text") d sorted (eqb-true (member_count d) 1 t.0) (there as_str _ _ text_is) in
     let x = string_exact part.0 text (subst (λ v. string_in (codes "text") v ≡ Some text) part.1 text_is) in
     subst (λ v. d ≡ opening_value v) is (part.1 ∙ rw x refl))
-
--- the word of an encoding
-encoding_exact : (s : List ℕ) (e : Encoding) → encoding_of s ≡ Some e → s ≡ encoding_word e
-unfolding encoding_of
-encoding_exact s e h =
-    word_step encoding_word s (codes "utf8") encoding.Utf8 e _ h refl (λ h.
-    word_step encoding_word s (codes "utf16le") encoding.Utf16Le e _ h refl (λ h.
-    word_step encoding_word s (codes "utf16be") encoding.Utf16Be e _ h refl (λ h.
-    word_step encoding_word s (codes "latin1") encoding.Latin1 e _ h refl (λ h. absurd (none-some e h)))))
 
 file_opening_exact : (d : Data) (o : Opening) → IsInKeyOrder d → file_opening_of d ≡ Some o → d ≡ opening_value o
 unfolding file_opening_of

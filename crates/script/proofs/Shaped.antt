@@ -1,6 +1,6 @@
 -- What the row of a command's word tells where the command has the right shape.
-use Rattle.std.proofs.Common.{◌≡◌, ◌+◌, ◌&&◌, ◌||◌, not, ℕ, List, [], ◌∷◌, length, Bool, true, false, cond, Option, Some, None, option_map, option_and_then, is_some, refl, sym, ap, subst, ◌∙◌, arith}
-use Rattle.std.specs.Prelude.{◌==◌, codes, unwrap_or}
+use Rattle.std.proofs.Common.{◌≡◌, ◌+◌, ◌&&◌, ◌||◌, not, ℕ, List, [], ◌∷◌, ◌++◌, length, map, Bool, true, false, cond, Option, Some, None, option_map, option_and_then, is_some, refl, sym, ap, ap₂, subst, ◌∙◌, arith}
+use Rattle.std.specs.Prelude.{◌==◌, codes, find, option_to_list, unwrap_or}
 use Rattle.std.specs.List.{AllByRecursion, list_all}
 use Rattle.std.specs.Str.{bytes_eq}
 use Rattle.std.proofs.lemmas.Bool.{eqb-true, and_parts, not-false, false≢true, ne_eqb}
@@ -9,15 +9,18 @@ use Rattle.machine.specs.declared.command.Command.{Command}
 use Rattle.machine.specs.declared.command.Command.TheVariants as command
 use Rattle.machine.specs.declared.command.How.{How}
 use Rattle.machine.specs.declared.command.How.TheVariants as how
+use Rattle.machine.specs.declared.reads.Encoding.{Encoding}
 use Rattle.machine.specs.declared.reads.Read.{Read}
 use Rattle.machine.specs.declared.reads.Read.TheVariants as read
 use Rattle.script.specs.declared.limits.TheConstants.{MAX_SHOWN, MAX_HITS, MAX_ID}
 use Rattle.script.specs.Limits.{has_needle, has_needles}
 use Rattle.script.specs.Parts.{member_count, items_in, string_in, whole_of, range_of, is_word}
 use Rattle.script.specs.Rows as kind
-use Rattle.script.specs.Rows.{Kind, Field, how_words}
-use Rattle.script.specs.Rules.{command_breaks, read_breaks, fields_break, any_field_breaks, field_breaks, with_reads, wrong_kind, wrong_number, wrong_encoding, empty_needle, wrong_name, any_item, save_name, names_in, reads_in, is_misshapen, is_unbuilt_read, built_words, built_reads, is_one_of}
-use Rattle.script.specs.ScriptDocument.{edit_of, look_of, ranged_of, bare_of, unmark_of, mark_range_of, exclusive_of, compare_of, mark_of, how_of, marks_of, watch_of, unwatch_of, on_marks_of, size_of, look_read_of, find_of, pattern_of, read_of, reads_of, take_of, asking_of, release_of, on_snapshots_of, on_text_of, command_of}
+use Rattle.script.specs.Reading.{is_unread}
+use Rattle.script.specs.Rows.{Kind, Field, Row, how_words, encoding_words, read_rows}
+use Rattle.script.specs.Rules.{command_breaks, read_breaks, fields_break, any_field_breaks, field_breaks, with_reads, wrong_kind, wrong_number, wrong_encoding, empty_needle, wrong_name, any_item, by_row, row_of, is_name, is_save, save_name, names_in, reads_in, snapshot_in, is_misshapen, built_words, is_one_of}
+use Rattle.script.specs.ScriptDocument.{edit_of, look_of, ranged_of, bare_of, unmark_of, mark_range_of, exclusive_of, compare_of, mark_of, how_of, marks_of, watch_of, unwatch_of, on_marks_of, size_of, look_read_of, find_of, pattern_of, save_of, encoding_of, read_of, reads_of, take_of, asking_of, release_of, on_snapshots_of, on_text_of, command_of}
+use Rattle.script.proofs.Openings.{encoding_there}
 use Rattle.script.proofs.RuleLemmas.{or_false, there}
 use Rattle.script.proofs.ScriptExact.{word_exact}
 use Rattle.serde_json.specs.Data.{Data, Items, no_items, item}
@@ -108,15 +111,15 @@ abbrev NeedlesAre : Option (List Read) → Bool → Type 0
 NeedlesAre None b = Unit {0}
 NeedlesAre (Some rs) b = b ≡ not (list_all has_needle rs)
 
--- what a read of the right shape is: this one, where its numbers are right
+-- what a read of the right shape is: this one, where its numbers and its encoding are right
 record IsShapedRead (d : Data) : Type 0 where
   found : Option Read
   read : read_of d ≡ found
-  number : read_breaks wrong_number false d ≡ not (is_some found)
-  encoding : read_breaks wrong_encoding false d ≡ false
+  fails : not (is_some found) ≡ (read_breaks wrong_number false d || read_breaks wrong_encoding false d)
+  number : read_breaks wrong_number false d ≡ is_unread false d
+  encoding : read_breaks wrong_encoding false d ≡ is_unread true d
   needle : NeedleIs found (read_breaks empty_needle false d)
-  name : read_breaks wrong_name false d ≡ false
-  names : save_name d ≡ None
+  name : read_breaks wrong_name false d ≡ not (list_all is_name (option_to_list (save_name d)))
 
 abbrev IsPlainRead : Option Read → Type 0
 IsPlainRead None = Unit {0}
@@ -126,16 +129,26 @@ plain_needle : (o : Option Read) (b : Bool) → IsPlainRead o → b ≡ false �
 plain_needle None b plain e = tt
 plain_needle (Some r) b plain e = rw plain e
 
-shaped_read : (d : Data) (fs : List Field) (o : Option Read) → HasReadRow d fs → are_simple fs ≡ true → IsPlainRead o → (read_of d ≡ o) × (read_breaks wrong_number false d ≡ not (is_some o)) → save_name d ≡ None → IsShapedRead d
-shaped_read d fs o row simple plain is names =
+or_no_more : (a : Bool) → (a || false) ≡ a
+or_no_more true = refl
+or_no_more false = refl
+
+-- a read that isn't a save
+other_unread : (d : Data) (o : Option Read) → is_save d ≡ false → read_of d ≡ o → (is_unread false d ≡ not (is_some o)) × (is_unread true d ≡ false) × (save_name d ≡ None)
+other_unread d o other e = (rw (other, e) refl, rw other refl, rw other refl)
+
+shaped_read : (d : Data) (fs : List Field) (o : Option Read) → HasReadRow d fs → are_simple fs ≡ true → IsPlainRead o → (read_of d ≡ o) × (read_breaks wrong_number false d ≡ not (is_some o)) → is_save d ≡ false → IsShapedRead d
+shaped_read d fs o row simple plain is other =
+    let encoding = row wrong_encoding false ∙ quiet_fields wrong_encoding d fs quiet_encoding simple in
+    let unread = other_unread d o other is.0 in
     record {
       found = o;
       read = is.0;
-      number = is.1;
-      encoding = row wrong_encoding false ∙ quiet_fields wrong_encoding d fs quiet_encoding simple;
+      fails = sym (ap₂ (λ a b. a || b) is.1 encoding ∙ or_no_more (not (is_some o)));
+      number = is.1 ∙ sym unread.0;
+      encoding = encoding ∙ sym unread.1;
       needle = plain_needle o _ plain (row empty_needle false ∙ quiet_fields empty_needle d fs quiet_needle simple);
-      name = row wrong_name false ∙ quiet_fields wrong_name d fs quiet_name simple;
-      names = names;
+      name = row wrong_name false ∙ quiet_fields wrong_name d fs quiet_name simple ∙ sym (ap (λ p. not (list_all is_name (option_to_list p))) unread.2);
     }
 
 size_by : (d : Data) → member_count d ≡ 1 → string_in (codes "get") d ≡ Some (codes "size") → (read_of d ≡ Some read.Size) × (read_breaks wrong_number false d ≡ false)
@@ -191,10 +204,10 @@ record IsFindOf (d : Data) (t : List ℕ) : Type 0 where
   encoding : read_breaks wrong_encoding false d ≡ false
   needle : read_breaks empty_needle false d ≡ (bytes_eq t [] || false)
   name : read_breaks wrong_name false d ≡ false
-  names : save_name d ≡ None
+  other : is_save d ≡ false
 
 find_tests : (d s v : Data) (t : List ℕ) → string_in (codes "get") d ≡ Some (codes "find") → get (codes "needle") d ≡ Some s → get (codes "limit") d ≡ Some v → as_str s ≡ Some t → IsFindOf d t
-find_tests d s v t word needle limit is = record { encoding = rw (word, needle, limit) refl; needle = rw (word, needle, limit, is) refl; name = rw (word, needle, limit) refl; names = rw word refl }
+find_tests d s v t word needle limit is = record { encoding = rw (word, needle, limit) refl; needle = rw (word, needle, limit, is) refl; name = rw (word, needle, limit) refl; other = rw word refl }
 
 find_shaped : (d : Data) → read_breaks wrong_kind true d ≡ false → string_in (codes "get") d ≡ Some (codes "find") → IsShapedRead d
 find_shaped d kinds word =
@@ -206,14 +219,16 @@ find_shaped d kinds word =
     let t = there (as_str s.value) s.kind in
     let by = find_by d s.value v.value t.0 _ has.0 word s.is v.is t.1 refl in
     let tests = find_tests d s.value v.value t.0 word s.is v.is t.1 in
+    let o = option_map (read.Find t.0) (whole_of MAX_HITS v.value) in
+    let unread = other_unread d o tests.other by.0 in
     record {
-      found = option_map (read.Find t.0) (whole_of MAX_HITS v.value);
+      found = o;
       read = by.0;
-      number = by.1;
-      encoding = tests.encoding;
+      fails = sym (ap₂ (λ a b. a || b) by.1 tests.encoding ∙ or_no_more (not (is_some o)));
+      number = by.1 ∙ sym unread.0;
+      encoding = tests.encoding ∙ sym unread.1;
       needle = find_needle t.0 (whole_of MAX_HITS v.value) _ tests.needle;
-      name = tests.name;
-      names = tests.names;
+      name = tests.name ∙ sym (ap (λ p. not (list_all is_name (option_to_list p))) unread.2);
     }
 
 pattern_by : (d s v : Data) (t : List ℕ) (p : Option ℕ) → member_count d ≡ 3 → string_in (codes "get") d ≡ Some (codes "pattern") → get (codes "pattern") d ≡ Some s → get (codes "limit") d ≡ Some v → as_str s ≡ Some t → whole_of MAX_HITS v ≡ p
@@ -245,19 +260,98 @@ by_words : (P : Type 0) (o : Option (List ℕ)) (words : List (List ℕ)) → Al
 by_words P o [] each h = absurd (false≢true h)
 by_words P o (w ∷ ws) each h = one_word P o w (is_one_of ws o) (is_word o w) refl each.0 (by_words P o ws each.1) h
 
-read_shaped : (d : Data) → is_unbuilt_read d ≡ false → read_breaks wrong_kind true d ≡ false → IsShapedRead d
-read_shaped d built kinds =
-    by_words (IsShapedRead d) (string_in (codes "get") d) built_reads (size_shaped d kinds, (look_read_shaped d kinds, (find_shaped d kinds, (pattern_shaped d kinds, tt)))) (not-false (is_one_of built_reads (string_in (codes "get") d)) built)
+-- a save, whose name and encoding are strings
+save_by : (d n w : Data) (name word : List ℕ) (o : Option Encoding) → member_count d ≡ 3 → string_in (codes "get") d ≡ Some (codes "save") → get (codes "name") d ≡ Some n → get (codes "encoding") d ≡ Some w → as_str n ≡ Some name → as_str w ≡ Some word → encoding_of word ≡ o
+    → read_of d ≡ option_map (λ e. read.Save name e) o
+unfolding read_of save_of
+save_by d n w name word None count get name_in word_in name_is word_is is = rw (count, get, word_in, word_is, is) refl
+save_by d n w name word (Some e) count get name_in word_in name_is word_is is = rw (count, get, word_in, word_is, is, name_in, name_is) refl
+
+record IsSaveOf (d : Data) (name word : List ℕ) : Type 0 where
+  number : read_breaks wrong_number false d ≡ false
+  encoding : read_breaks wrong_encoding false d ≡ (not (is_one_of encoding_words (Some word)) || false)
+  needle : read_breaks empty_needle false d ≡ false
+  name_is : read_breaks wrong_name false d ≡ (not (is_some (cond (is_name name) (Some name) None)) || false)
+  save : is_save d ≡ true
+  named : save_name d ≡ Some name
+
+save_tests : (d n w : Data) (name word : List ℕ) → string_in (codes "get") d ≡ Some (codes "save") → get (codes "name") d ≡ Some n → get (codes "encoding") d ≡ Some w → as_str n ≡ Some name → as_str w ≡ Some word → IsSaveOf d name word
+save_tests d n w name word get name_in word_in name_is word_is = record {
+  number = rw (get, name_in, word_in) refl;
+  encoding = rw (get, name_in, word_in, word_is) refl;
+  needle = rw (get, name_in, word_in) refl;
+  name_is = rw (get, name_in, word_in, name_is) refl;
+  save = rw get refl;
+  named = rw (get, name_in, name_is) refl;
+}
+
+save_unread : (d : Data) (name : List ℕ) (o : Option Encoding) → is_save d ≡ true → read_of d ≡ option_map (λ e. read.Save name e) o → (is_unread false d ≡ false) × (is_unread true d ≡ not (is_some o))
+save_unread d name None save e = (rw save refl, rw (save, e) refl)
+save_unread d name (Some x) save e = (rw save refl, rw (save, e) refl)
+
+save_plain : (name : List ℕ) (o : Option Encoding) (b : Bool) → b ≡ false → NeedleIs (option_map (λ e. read.Save name e) o) b
+save_plain name None b e = tt
+save_plain name (Some x) b e = e
+
+same_there : (name : List ℕ) (o : Option Encoding) → not (is_some (option_map (λ e. read.Save name e) o)) ≡ not (is_some o)
+same_there name None = refl
+same_there name (Some x) = refl
+
+name_test : (b : Bool) (name : List ℕ) → (not (is_some (cond b (Some name) None)) || false) ≡ not (b && true)
+name_test true name = refl
+name_test false name = refl
+
+save_shaped : (d : Data) → read_breaks wrong_kind true d ≡ false → string_in (codes "get") d ≡ Some (codes "save") → IsShapedRead d
+save_shaped d kinds word =
+    let fs : List Field = (codes "name", kind.name) ∷ (codes "encoding", kind.encoding) ∷ [] in
+    let row : HasReadRow d fs = λ test shape. rw word refl in
+    let has = fields_there wrong_kind 3 d fs refl (sym (row wrong_kind true) ∙ kinds) in
+    let n = has.1.0 in
+    let w = has.1.1.0 in
+    let name = there (as_str n.value) n.kind in
+    let said = there (as_str w.value) w.kind in
+    let o = encoding_of said.0 in
+    let by = save_by d n.value w.value name.0 said.0 o has.0 word n.is w.is name.1 said.1 refl in
+    let tests = save_tests d n.value w.value name.0 said.0 word n.is w.is name.1 said.1 in
+    let wrong : read_breaks wrong_encoding false d ≡ not (is_some o) = tests.encoding ∙ or_no_more _ ∙ ap not (encoding_there said.0) in
+    let unread = save_unread d name.0 o tests.save by in
+    record {
+      found = option_map (λ e. read.Save name.0 e) o;
+      read = by;
+      fails = same_there name.0 o ∙ sym (ap₂ (λ a b. a || b) tests.number wrong);
+      number = tests.number ∙ sym unread.0;
+      encoding = wrong ∙ sym unread.1;
+      needle = save_plain name.0 o _ tests.needle;
+      name = tests.name_is ∙ name_test (is_name name.0) name.0 ∙ sym (ap (λ p. not (list_all is_name (option_to_list p))) tests.named);
+    }
+
+-- the word of a row that is found is one of the words
+first_or_more : (b : Bool) (row : Row) (found : Option Row) (rest : Bool) → (is_some found ≡ true → rest ≡ true) → is_some (cond b (Some row) found) ≡ true → (b || rest) ≡ true
+first_or_more true row found rest more h = refl
+first_or_more false row found rest more h = more h
+
+word_found : (o : Option (List ℕ)) (rows : List Row) → is_some (find (λ row. is_word o row.0) rows) ≡ true → is_one_of (map (λ row. row.0) rows) o ≡ true
+word_found o [] h = h
+word_found o (row ∷ rows) h = first_or_more (is_word o row.0) row _ (is_one_of (map (λ row. row.0) rows) o) (word_found o rows) h
+
+row_found : (d : Data) (o : Option Row) → by_row wrong_kind true d o ≡ false → is_some o ≡ true
+row_found d None h = absurd (false≢true (sym h))
+row_found d (Some row) h = refl
+
+read_shaped : (d : Data) → read_breaks wrong_kind true d ≡ false → IsShapedRead d
+read_shaped d kinds =
+    by_words (IsShapedRead d) (string_in (codes "get") d) (map (λ row. row.0) read_rows) (size_shaped d kinds, (look_read_shaped d kinds, (find_shaped d kinds, (pattern_shaped d kinds, (save_shaped d kinds, tt)))))
+    (word_found (string_in (codes "get") d) read_rows (row_found d (row_of read_rows (codes "get") d) kinds))
 
 -- what reads of the right shape are
 record AreShapedReads (ds : Items) : Type 0 where
   found : Option (List Read)
   read : reads_of ds ≡ found
-  number : any_item (read_breaks wrong_number false) ds ≡ not (is_some found)
-  encoding : any_item (read_breaks wrong_encoding false) ds ≡ false
+  fails : not (is_some found) ≡ (any_item (read_breaks wrong_number false) ds || any_item (read_breaks wrong_encoding false) ds)
+  number : any_item (read_breaks wrong_number false) ds ≡ any_item (is_unread false) ds
+  encoding : any_item (read_breaks wrong_encoding false) ds ≡ any_item (is_unread true) ds
   needle : NeedlesAre found (any_item (read_breaks empty_needle false) ds)
-  name : any_item (read_breaks wrong_name false) ds ≡ false
-  names : names_in ds ≡ []
+  name : any_item (read_breaks wrong_name false) ds ≡ not (list_all is_name (names_in ds))
 
 abbrev one_more : Option Read → Option (List Read) → Option (List Read)
 one_more o p = option_and_then (λ r. option_map (λ rs. r ∷ rs) p) o
@@ -276,21 +370,36 @@ needle_more None p x y h k = tt
 needle_more (Some r) None x y h k = tt
 needle_more (Some r) (Some rs) x y h k = rw (h, k) (not_both (has_needle r) (list_all has_needle rs))
 
-reads_shaped : (ds : Items) → any_item is_unbuilt_read ds ≡ false → any_item (read_breaks wrong_kind true) ds ≡ false → AreShapedReads ds
-reads_shaped no_items built kinds = record { found = Some []; read = refl; number = refl; encoding = refl; needle = refl; name = refl; names = refl }
-reads_shaped (item d ds) built kinds =
-    let b = or_false (is_unbuilt_read d) (any_item is_unbuilt_read ds) built in
+four_or : (a b c d : Bool) → ((a || b) || (c || d)) ≡ ((a || c) || (b || d))
+four_or true b c d = refl
+four_or false true true d = refl
+four_or false true false d = refl
+four_or false false c d = refl
+
+-- the names of one read, and of more
+one_name : (x y : Bool) → (not (x && true) || not y) ≡ not (x && y)
+one_name true y = refl
+one_name false y = refl
+
+names_more : (p : Option (List ℕ)) (names : List (List ℕ)) → (not (list_all is_name (option_to_list p)) || not (list_all is_name names)) ≡ not (list_all is_name (option_to_list p ++ names))
+names_more None names = refl
+names_more (Some s) names = one_name (is_name s) (list_all is_name names)
+
+reads_shaped : (ds : Items) → any_item (read_breaks wrong_kind true) ds ≡ false → AreShapedReads ds
+reads_shaped no_items kinds = record { found = Some []; read = refl; fails = refl; number = refl; encoding = refl; needle = refl; name = refl }
+reads_shaped (item d ds) kinds =
     let k = or_false (read_breaks wrong_kind true d) (any_item (read_breaks wrong_kind true) ds) kinds in
-    let one = read_shaped d b.0 k.0 in
-    let more = reads_shaped ds b.1 k.1 in
+    let one = read_shaped d k.0 in
+    let more = reads_shaped ds k.1 in
     record {
       found = one_more one.found more.found;
       read = rw (one.read, more.read) refl;
-      number = rw (one.number, more.number) (either_none one.found more.found);
-      encoding = rw (one.encoding, more.encoding) refl;
+      fails = sym (either_none one.found more.found) ∙ ap₂ (λ a b. a || b) one.fails more.fails
+          ∙ four_or (read_breaks wrong_number false d) (read_breaks wrong_encoding false d) (any_item (read_breaks wrong_number false) ds) (any_item (read_breaks wrong_encoding false) ds);
+      number = ap₂ (λ a b. a || b) one.number more.number;
+      encoding = ap₂ (λ a b. a || b) one.encoding more.encoding;
       needle = needle_more one.found more.found _ _ one.needle more.needle;
-      name = rw (one.name, more.name) refl;
-      names = rw (one.names, more.names) refl;
+      name = ap₂ (λ a b. a || b) one.name more.name ∙ names_more (save_name d) (names_in ds);
     }
 
 -- ---- commands
@@ -303,15 +412,15 @@ abbrev pub HasNeedles : Option Command → Bool → Type 0
 HasNeedles None b = Unit {0}
 HasNeedles (Some c) b = b ≡ not (has_needles c)
 
--- what a command of the right shape is: this one, where its numbers are right
+-- what a command of the right shape is: this one, where its numbers and its encodings are right
 pub record IsShaped (d : Data) : Type 0 where
   pub found : Option Command
   pub read : command_of d ≡ found
-  pub number : command_breaks wrong_number false d ≡ not (is_some found)
-  pub encoding : command_breaks wrong_encoding false d ≡ false
+  pub fails : not (is_some found) ≡ (command_breaks wrong_number false d || command_breaks wrong_encoding false d)
+  pub number : any_item (is_unread true) (reads_in d) ≡ true → command_breaks wrong_number false d ≡ (not (is_some (snapshot_in d)) || any_item (is_unread false) (reads_in d))
+  pub encoding : command_breaks wrong_encoding false d ≡ any_item (is_unread true) (reads_in d)
   pub needle : HasNeedles found (command_breaks empty_needle false d)
-  pub name : command_breaks wrong_name false d ≡ false
-  pub names : names_in (reads_in d) ≡ []
+  pub name : command_breaks wrong_name false d ≡ not (list_all is_name (names_in (reads_in d)))
 
 -- it is so read, and its numbers are right where it is
 abbrev IsReadAs : Data → Option Command → Type 0
@@ -325,16 +434,17 @@ no_needle : (o : Option Command) (b : Bool) → IsPlain o → b ≡ false → Ha
 no_needle None b plain e = tt
 no_needle (Some c) b plain e = rw plain e
 
-shaped : (d : Data) (fs : List Field) (o : Option Command) → HasRow d fs → are_simple fs ≡ true → IsPlain o → IsReadAs d o → names_in (reads_in d) ≡ [] → IsShaped d
-shaped d fs o row simple plain is names =
+shaped : (d : Data) (fs : List Field) (o : Option Command) → HasRow d fs → are_simple fs ≡ true → IsPlain o → IsReadAs d o → reads_in d ≡ no_items → IsShaped d
+shaped d fs o row simple plain is none =
+    let encoding = row wrong_encoding false ∙ quiet_fields (with_reads wrong_encoding false) d fs (quiet_reads wrong_encoding quiet_encoding) simple in
     record {
       found = o;
       read = is.0;
-      number = is.1;
-      encoding = row wrong_encoding false ∙ quiet_fields (with_reads wrong_encoding false) d fs (quiet_reads wrong_encoding quiet_encoding) simple;
+      fails = sym (ap₂ (λ a b. a || b) is.1 encoding ∙ or_no_more (not (is_some o)));
+      number = λ h. absurd (false≢true (sym (ap (any_item (is_unread true)) none) ∙ h));
+      encoding = encoding ∙ sym (ap (any_item (is_unread true)) none);
       needle = no_needle o _ plain (row empty_needle false ∙ quiet_fields (with_reads empty_needle false) d fs (quiet_reads empty_needle quiet_needle) simple);
-      name = row wrong_name false ∙ quiet_fields (with_reads wrong_name false) d fs (quiet_reads wrong_name quiet_name) simple;
-      names = names;
+      name = row wrong_name false ∙ quiet_fields (with_reads wrong_name false) d fs (quiet_reads wrong_name quiet_name) simple ∙ sym (ap (λ ds. not (list_all is_name (names_in ds))) none);
     }
 
 -- the members of such a command
@@ -582,14 +692,12 @@ asking_by d v w ds None p n snapshot reads list is at = rw (n, snapshot, is) ref
 asking_by d v w ds (Some k) None n snapshot reads list is at = rw (n, snapshot, reads, list, is, at) refl
 asking_by d v w ds (Some k) (Some rs) n snapshot reads list is at = rw (n, snapshot, reads, list, is, at) refl
 
-or_no_more : (a : Bool) → (a || false) ≡ a
-or_no_more true = refl
-or_no_more false = refl
-
-asking_number : (o : Option ℕ) (p : Option (List Read)) (make : ℕ → List Read → Command) (b : Bool) → b ≡ not (is_some p) → (not (is_some o) || (b || false)) ≡ not (is_some (option_map (made_of make) (option_and_then (λ k. option_map (λ rs. (k, rs)) p) o)))
-asking_number None p make b e = refl
-asking_number (Some k) None make b e = rw e refl
-asking_number (Some k) (Some rs) make b e = rw e refl
+-- the number of the snapshot is wrong, or a number or an encoding of the reads
+asking_fails : (o : Option ℕ) (p : Option (List Read)) (make : ℕ → List Read → Command) (n e : Bool) → not (is_some p) ≡ (n || e)
+    → not (is_some (option_map (made_of make) (option_and_then (λ k. option_map (λ rs. (k, rs)) p) o))) ≡ ((not (is_some o) || (n || false)) || e)
+asking_fails None p make n e h = refl
+asking_fails (Some k) None make n e h = h ∙ ap (λ b. b || e) (sym (or_no_more n))
+asking_fails (Some k) (Some rs) make n e h = h ∙ ap (λ b. b || e) (sym (or_no_more n))
 
 asking_needles : (make : ℕ → List Read → Command) → ((k : ℕ) (rs : List Read) → has_needles (make k rs) ≡ list_all has_needle rs) → (o : Option ℕ) (p : Option (List Read)) (a b : Bool) → NeedlesAre p a → b ≡ a
     → HasNeedles (option_map (made_of make) (option_and_then (λ k. option_map (λ rs. (k, rs)) p) o)) b
@@ -607,6 +715,7 @@ abbrev asking_fields : List Field
 asking_fields = (codes "snapshot", kind.whole MAX_ID) ∷ (codes "reads", kind.reads) ∷ []
 
 record IsReadOf (d v : Data) (ds : Items) : Type 0 where
+  snapshot : snapshot_in d ≡ whole_of MAX_ID v
   number : fields_break (with_reads wrong_number false) false 1 d asking_fields ≡ (not (is_some (whole_of MAX_ID v)) || (any_item (read_breaks wrong_number false) ds || false))
   encoding : fields_break (with_reads wrong_encoding false) false 1 d asking_fields ≡ (any_item (read_breaks wrong_encoding false) ds || false)
   needle : fields_break (with_reads empty_needle false) false 1 d asking_fields ≡ (any_item (read_breaks empty_needle false) ds || false)
@@ -614,57 +723,58 @@ record IsReadOf (d v : Data) (ds : Items) : Type 0 where
 
 asking_tests : (d v w : Data) (ds : Items) → get (codes "snapshot") d ≡ Some v → get (codes "reads") d ≡ Some w → as_array w ≡ Some ds → IsReadOf d v ds
 asking_tests d v w ds snapshot reads list =
-    record { number = rw (snapshot, reads, list) refl; encoding = rw (snapshot, reads, list) refl; needle = rw (snapshot, reads, list) refl; name = rw (snapshot, reads, list) refl }
+    record { snapshot = rw snapshot refl; number = rw (snapshot, reads, list) refl; encoding = rw (snapshot, reads, list) refl; needle = rw (snapshot, reads, list) refl; name = rw (snapshot, reads, list) refl }
 
 -- a command that has a number and reads, and no more: what its word is for, given by the three equations
 asking_shaped : (make : ℕ → List Read → Command) (d : Data) → ((k : ℕ) (rs : List Read) → has_needles (make k rs) ≡ list_all has_needle rs) → HasRow d asking_fields → command_of d ≡ option_map (made_of make) (asking_of d)
-    → reads_in d ≡ unwrap_or (option_and_then as_array (get (codes "reads") d)) no_items → any_item is_unbuilt_read (reads_in d) ≡ false → command_breaks wrong_kind true d ≡ false → IsShaped d
-asking_shaped make d each row of reads_are built kinds =
+    → reads_in d ≡ unwrap_or (option_and_then as_array (get (codes "reads") d)) no_items → command_breaks wrong_kind true d ≡ false → IsShaped d
+asking_shaped make d each row of reads_are kinds =
     let has = row_there 3 d asking_fields refl row kinds in
     let v = has.1.0 in
     let w = has.1.1.0 in
     let parts = or_false (not (is_some (as_array w.value))) (any_item (read_breaks wrong_kind true) (items_in w.value)) w.kind in
     let ds = there (as_array w.value) parts.0 in
     let is : reads_in d ≡ ds.0 = reads_are ∙ listed d w.value ds.0 w.is ds.1 in
-    let reads = reads_shaped ds.0 (ap (any_item is_unbuilt_read) (sym is) ∙ built) (inner_reads w.value ds.0 ds.1 parts.1) in
+    let reads = reads_shaped ds.0 (inner_reads w.value ds.0 ds.1 parts.1) in
     let by = asking_by d v.value w.value ds.0 _ _ has.0 v.is w.is ds.1 refl reads.read in
     let tests = asking_tests d v.value w.value ds.0 v.is w.is ds.1 in
+    let encoding = row wrong_encoding false ∙ tests.encoding ∙ or_no_more _ in
+    let number = row wrong_number false ∙ tests.number in
     record {
       found = _;
       read = of ∙ ap (option_map (made_of make)) by;
-      number = row wrong_number false ∙ tests.number ∙ asking_number (whole_of MAX_ID v.value) reads.found make _ reads.number;
-      encoding = row wrong_encoding false ∙ tests.encoding ∙ or_no_more _ ∙ reads.encoding;
+      fails = asking_fails (whole_of MAX_ID v.value) reads.found make _ _ reads.fails ∙ sym (ap₂ (λ a b. a || b) number encoding);
+      number = λ h. number ∙ ap₂ (λ (o : Option ℕ) (b : Bool). not (is_some o) || b) (sym tests.snapshot) (or_no_more _ ∙ reads.number ∙ sym (ap (any_item (is_unread false)) is));
+      encoding = encoding ∙ reads.encoding ∙ sym (ap (any_item (is_unread true)) is);
       needle = asking_needles make each (whole_of MAX_ID v.value) reads.found _ _ reads.needle (row empty_needle false ∙ tests.needle ∙ or_no_more _);
-      name = row wrong_name false ∙ tests.name ∙ or_no_more _ ∙ reads.name;
-      names = ap names_in is ∙ reads.names;
+      name = row wrong_name false ∙ tests.name ∙ or_no_more _ ∙ reads.name ∙ sym (ap (λ ds. not (list_all is_name (names_in ds))) is);
     }
 
 read_is : (d : Data) → string_in (codes "do") d ≡ Some (codes "read") → command_of d ≡ option_map (made_of command.Read) (asking_of d)
 unfolding command_of on_snapshots_of
 read_is d word = rw word refl
 
-read_command_shaped : (d : Data) → any_item is_unbuilt_read (reads_in d) ≡ false → command_breaks wrong_kind true d ≡ false → string_in (codes "do") d ≡ Some (codes "read") → IsShaped d
-read_command_shaped d built kinds word = asking_shaped command.Read d (λ k rs. refl) (λ test shape. rw word refl) (read_is d word) (rw word refl) built kinds
+read_command_shaped : (d : Data) → command_breaks wrong_kind true d ≡ false → string_in (codes "do") d ≡ Some (codes "read") → IsShaped d
+read_command_shaped d kinds word = asking_shaped command.Read d (λ k rs. refl) (λ test shape. rw word refl) (read_is d word) (rw word refl) kinds
 
 send_is : (d : Data) → string_in (codes "do") d ≡ Some (codes "send") → command_of d ≡ option_map (made_of command.Send) (asking_of d)
 unfolding command_of on_snapshots_of
 send_is d word = rw word refl
 
-send_shaped : (d : Data) → any_item is_unbuilt_read (reads_in d) ≡ false → command_breaks wrong_kind true d ≡ false → string_in (codes "do") d ≡ Some (codes "send") → IsShaped d
-send_shaped d built kinds word = asking_shaped command.Send d (λ k rs. refl) (λ test shape. rw word refl) (send_is d word) (rw word refl) built kinds
+send_shaped : (d : Data) → command_breaks wrong_kind true d ≡ false → string_in (codes "do") d ≡ Some (codes "send") → IsShaped d
+send_shaped d kinds word = asking_shaped command.Send d (λ k rs. refl) (λ test shape. rw word refl) (send_is d word) (rw word refl) kinds
 
 -- ---- each word
 
-right_shape : (a u z : Bool) → (((not a || u) && true) || z) ≡ false → (a ≡ true) × (u ≡ false) × (z ≡ false)
-right_shape true false z h = (refl, refl, h)
-right_shape true true z h = absurd (false≢true (sym h))
-right_shape false u z h = absurd (false≢true (sym h))
+right_shape : (a z : Bool) → ((not a && true) || z) ≡ false → (a ≡ true) × (z ≡ false)
+right_shape true z h = (refl, h)
+right_shape false z h = absurd (false≢true (sym h))
 
 -- a command whose shape is right
 pub command_shaped : (d : Data) → is_misshapen false d ≡ false → IsShaped d
 command_shaped d shape =
-    let parts = right_shape (is_one_of built_words (string_in (codes "do") d)) (any_item is_unbuilt_read (reads_in d)) (command_breaks wrong_kind true d) shape in
-    let k = parts.2 in
+    let parts = right_shape (is_one_of built_words (string_in (codes "do") d)) (command_breaks wrong_kind true d) shape in
+    let k = parts.1 in
     by_words (IsShaped d) (string_in (codes "do") d) built_words (
       edit_shaped d k,
       (
@@ -685,7 +795,7 @@ command_shaped d shape =
                       watch_shaped d k,
                       (
                         unwatch_shaped d k,
-                        (take_shaped d k, (read_command_shaped d parts.1 k, (send_shaped d parts.1 k, (release_shaped d k, (undo_shaped d k, (redo_shaped d k, (squash_shaped d k, tt))))))),
+                        (take_shaped d k, (read_command_shaped d k, (send_shaped d k, (release_shaped d k, (undo_shaped d k, (redo_shaped d k, (squash_shaped d k, tt))))))),
                       ),
                     ),
                   ),

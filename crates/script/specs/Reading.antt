@@ -1,5 +1,5 @@
 -- What a function that reads a part of a JSON value answers, and what a reader counts.
-use Rattle.std.specs.Prelude.{◌≡◌, ◌≤◌, ◌==◌, ◌||◌, not, nat_lt, ℕ, List, [], ◌∷◌, length, Bool, true, false, Option, Some, None, is_some, option_map, unwrap_or, Result, Ok, Err, codes}
+use Rattle.std.specs.Prelude.{◌≡◌, ◌≤◌, ◌==◌, ◌&&◌, ◌||◌, not, nat_lt, ℕ, List, [], ◌∷◌, length, Bool, true, false, if◌then◌else◌, Option, Some, None, is_some, option_map, unwrap_or, Result, Ok, Err, codes}
 use Rattle.points.specs.Text.{utf16_of}
 use Rattle.points.specs.declared.limits.TheConstants.{MAX_UNITS}
 use Rattle.machine.specs.declared.command.Command.{Command}
@@ -8,16 +8,16 @@ use Rattle.machine.specs.declared.command.Script.{Script}
 use Rattle.script.specs.declared.before.Before.{Before}
 use Rattle.script.specs.declared.before.CommandFault.{CommandFault}
 use Rattle.script.specs.declared.before.CommandFault.TheVariants as fault
-use Rattle.script.specs.declared.limits.TheConstants.{MAX_COMMANDS, MAX_READINGS, MAX_FINDS, MAX_WATCHES, MAX_ID}
+use Rattle.script.specs.declared.limits.TheConstants.{MAX_COMMANDS, MAX_READINGS, MAX_SAVES, MAX_FINDS, MAX_WATCHES, MAX_ID}
 use Rattle.script.specs.declared.parts.Misfit.{Misfit}
 use Rattle.script.specs.declared.parts.Misfit.TheVariants.{Shape, NoMemory}
 use Rattle.script.specs.declared.refusal.ScriptRule.{ScriptRule}
-use Rattle.script.specs.declared.refusal.ScriptRule.TheVariants.{BadShape, TooMany, BadEncoding, BadName}
+use Rattle.script.specs.declared.refusal.ScriptRule.TheVariants.{BadShape, TooMany, BadNumber, BadEncoding, BadName}
 use Rattle.script.specs.Parts.{items_in, member_count, string_in}
 use Rattle.script.specs.Rows as kind
 use Rattle.script.specs.Rules as rules
-use Rattle.script.specs.Rules.{at_start, next, names_in, reads_in, is_too_many, any_item, is_unbuilt_read, read_breaks, field_breaks, wrong_kind, wrong_encoding, wrong_name, opening_breaks, command_tests, first_broken}
-use Rattle.script.specs.ScriptDocument.{command_of}
+use Rattle.script.specs.Rules.{at_start, next, reads_in, is_save, snapshot_in, any_item, read_breaks, field_breaks, wrong_kind, wrong_encoding, wrong_name, opening_breaks, command_tests, first_broken}
+use Rattle.script.specs.ScriptDocument.{read_of, command_of}
 use Rattle.serde_json.specs.Data.{Data}
 use Rattle.serde_json.specs.Find.{get, as_array}
 
@@ -31,9 +31,9 @@ abbrev pub Gives : {X Y : Type 0} → (X → Y) → Result X Misfit → Option Y
 Gives seen (Ok x) part = part ≡ Some (seen x)
 Gives seen (Err misfit) part = Fails misfit part
 
--- what the rules ask for of what was counted: no save was there, and no session before
+-- what the rules ask for of what was counted: there was no session before
 abbrev pub counted : Before → rules.Before
-counted b = record at_start { commands = b.commands; reading = b.readings; marks = b.finds; watches = b.watches; peak = b.peak; live = b.live }
+counted b = record at_start { commands = b.commands; reading = b.readings; marks = b.finds; watches = b.watches; names = b.names.items; peak = b.peak; live = b.live }
 
 -- within the limits
 pub record IsFew (b : Before) : Type 0 where
@@ -41,20 +41,24 @@ pub record IsFew (b : Before) : Type 0 where
   pub readings : b.readings ≤ MAX_READINGS
   pub finds : b.finds ≤ MAX_FINDS
   pub watches : b.watches ≤ MAX_WATCHES
+  pub saves : length b.names.items ≤ MAX_SAVES
 
--- a value that has no saves, and with which there isn't too much of anything
-pub record HasRoom (b : Before) (d : Data) : Type 0 where
-  pub names : names_in (reads_in d) ≡ []
-  pub few : is_too_many (counted b) d ≡ false
-
--- the member `reads` is no list, or one of its reads is broken or isn't built
+-- the member `reads` is no list, or one of its reads is broken
 abbrev pub reads_break : Option Data → Bool
 reads_break None = true
-reads_break (Some d) = not (is_some (as_array d)) || any_item (λ r. is_unbuilt_read r || read_breaks wrong_kind true r) (items_in d)
+reads_break (Some d) = not (is_some (as_array d)) || any_item (read_breaks wrong_kind true) (items_in d)
 
--- the members of a command that reads a snapshot are broken, or one of its reads isn't built
+-- the members of a command that reads a snapshot are broken, or one of its reads is
 abbrev pub read_members_break : Data → Bool
 read_members_break d = not (member_count d == 3) || (field_breaks wrong_kind true (kind.whole MAX_ID) (get (codes "snapshot") d) || reads_break (get (codes "reads") d))
+
+-- a save that isn't read, as its encoding is another string than the four; or another read, as a number of it is wrong
+abbrev pub is_unread : Bool → Data → Bool
+is_unread save d = (if save then is_save d else not (is_save d)) && not (is_some (read_of d))
+
+-- The rule that a command breaks whose members have the right kinds and that isn't read: its numbers are looked at before its encodings.
+abbrev pub unread_rule : Data → ScriptRule
+unread_rule d = if any_item (is_unread true) (reads_in d) && (is_some (snapshot_in d) && not (any_item (is_unread false) (reads_in d))) then BadEncoding else BadNumber
 
 -- a command that breaks no rule was read, and counted
 pub record IsRead (old new : Before) (d : Data) (c : Command) : Type 0 where

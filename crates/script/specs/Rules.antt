@@ -138,9 +138,12 @@ reads_in d = if is_do (codes "read") d || is_do (codes "send") d then unwrap_or 
 abbrev pub readings_in : Data → ℕ
 readings_in d = one_if (is_do (codes "text") d || is_do (codes "marks") d) + count_items (reads_in d)
 
--- the names of the saves among reads
+-- a read that saves, and the names of the saves among reads
+abbrev pub is_save : Data → Bool
+is_save d = is_word (string_in (codes "get") d) (codes "save")
+
 abbrev pub save_name : Data → Option (List ℕ)
-save_name d = if is_word (string_in (codes "get") d) (codes "save") then string_in (codes "name") d else None
+save_name d = if is_save d then string_in (codes "name") d else None
 
 abbrev pub names_in : Items → List (List ℕ)
 names_in no_items = []
@@ -188,10 +191,14 @@ is_too_many b d =
     nat_lt MAX_COMMANDS (next b d).commands || nat_lt MAX_READINGS (next b d).reading || nat_lt MAX_SAVES (length (next b d).names)
     || nat_lt MAX_FINDS (next b d).marks || nat_lt MAX_WATCHES (next b d).watches || (is_do (codes "take") d && nat_lt MAX_HANDS (b.peaks + length b.live + 1))
 
+-- this name is one of those
+abbrev pub is_among : List (List ℕ) → List ℕ → Bool
+is_among names s = list_any (bytes_eq s) names
+
 -- one of these names is there already, or stands twice among them
 abbrev pub is_again : List (List ℕ) → List (List ℕ) → Bool
 is_again there [] = false
-is_again there (s ∷ more) = list_any (bytes_eq s) there || is_again (s ∷ there) more
+is_again there (s ∷ more) = is_among there s || is_again (there ++ s ∷ []) more
 
 -- ---- the tests at each place
 
@@ -207,10 +214,6 @@ built_words =
     codes "edit" ∷ codes "text" ∷ codes "unmark" ∷ codes "range" ∷ codes "exclusive" ∷ codes "compare" ∷ codes "mark" ∷ codes "marks" ∷ codes "watch" ∷ codes "unwatch"
     ∷ codes "take" ∷ codes "read" ∷ codes "send" ∷ codes "release" ∷ bare_words
 
--- the words of the reads that are built
-abbrev pub built_reads : List (List ℕ)
-built_reads = codes "size" ∷ codes "text" ∷ codes "find" ∷ codes "pattern" ∷ []
-
 -- a command on marks and watchers
 abbrev pub is_on_marks : Data → Bool
 is_on_marks d = is_one_of (codes "unmark" ∷ codes "range" ∷ codes "exclusive" ∷ codes "compare" ∷ codes "mark" ∷ codes "marks" ∷ codes "watch" ∷ codes "unwatch" ∷ []) (string_in (codes "do") d)
@@ -223,14 +226,11 @@ is_on_snapshots d = is_one_of (codes "take" ∷ codes "read" ∷ codes "send" �
 abbrev pub is_bare : Data → Bool
 is_bare d = is_one_of bare_words (string_in (codes "do") d)
 
--- a command or a read that isn't built
-abbrev pub is_unbuilt_read : Data → Bool
-is_unbuilt_read d = not (is_one_of built_reads (string_in (codes "get") d))
-
+-- a command that isn't built
 abbrev pub is_unbuilt : Data → Bool
-is_unbuilt d = not (is_one_of built_words (string_in (codes "do") d)) || any_item is_unbuilt_read (reads_in d)
+is_unbuilt d = not (is_one_of built_words (string_in (codes "do") d))
 
--- The shape of a command is broken; unless `all` words are looked at, also where its word or one of its reads isn't built.
+-- The shape of a command is broken; unless `all` words are looked at, also where its word isn't built.
 abbrev pub is_misshapen : Bool → Data → Bool
 is_misshapen all d = (is_unbuilt d && not all) || command_breaks wrong_kind true d
 

@@ -90,6 +90,17 @@ on_marks_of d =
     else (if is_word (string_in (codes "do") d) (codes "watch") then watch_of d
     else (if is_word (string_in (codes "do") d) (codes "unwatch") then unwatch_of d else None)))))))
 
+-- the encoding with a word
+unfoldable pub encoding_of : List ℕ → Option Encoding
+encoding_of s =
+    if bytes_eq s (codes "utf8") then Some encoding.Utf8
+    else (if bytes_eq s (codes "utf16le") then Some encoding.Utf16Le
+    else (if bytes_eq s (codes "utf16be") then Some encoding.Utf16Be
+    else (if bytes_eq s (codes "latin1") then Some encoding.Latin1 else None)))
+
+abbrev pub encoding_in : Data → Option Encoding
+encoding_in d = option_and_then encoding_of (string_in (codes "encoding") d)
+
 -- a read: an object with `get` and the members that its word asks for
 unfoldable pub size_of : Data → Option Read
 size_of d = if member_count d == 1 then Some read.Size else None
@@ -103,12 +114,16 @@ find_of d = if member_count d == 3 then option_and_then (λ needle. option_map (
 unfoldable pub pattern_of : Data → Option Read
 pattern_of d = if member_count d == 3 then option_and_then (λ pattern. option_map (read.Pattern pattern) (whole_in MAX_HITS (codes "limit") d)) (string_in (codes "pattern") d) else None
 
+unfoldable pub save_of : Data → Option Read
+save_of d = if member_count d == 3 then option_and_then (λ e. option_map (λ name. read.Save name e) (string_in (codes "name") d)) (encoding_in d) else None
+
 unfoldable pub read_of : Data → Option Read
 read_of d =
     if is_word (string_in (codes "get") d) (codes "size") then size_of d
     else (if is_word (string_in (codes "get") d) (codes "text") then look_read_of d
     else (if is_word (string_in (codes "get") d) (codes "find") then find_of d
-    else (if is_word (string_in (codes "get") d) (codes "pattern") then pattern_of d else None)))
+    else (if is_word (string_in (codes "get") d) (codes "pattern") then pattern_of d
+    else (if is_word (string_in (codes "get") d) (codes "save") then save_of d else None))))
 
 abbrev pub reads_of : Items → Option (List Read)
 reads_of no_items = Some []
@@ -155,16 +170,6 @@ unfoldable pub sessions_of : Data → Option (List (List Command))
 sessions_of d = if item_count d == 1 then option_map (λ session. session ∷ []) (option_and_then session_of (at 0 d)) else None
 
 -- what a script opens: an object with the one member `text`, or with the two members `file` and `encoding`
-unfoldable pub encoding_of : List ℕ → Option Encoding
-encoding_of s =
-    if bytes_eq s (codes "utf8") then Some encoding.Utf8
-    else (if bytes_eq s (codes "utf16le") then Some encoding.Utf16Le
-    else (if bytes_eq s (codes "utf16be") then Some encoding.Utf16Be
-    else (if bytes_eq s (codes "latin1") then Some encoding.Latin1 else None)))
-
-abbrev pub encoding_in : Data → Option Encoding
-encoding_in d = option_and_then encoding_of (string_in (codes "encoding") d)
-
 unfoldable pub text_opening_of : Data → Option Opening
 text_opening_of d = if member_count d == 1 then option_map opening.Text (string_in (codes "text") d) else None
 

@@ -17,6 +17,7 @@ mod read;
 mod reads;
 mod refusal;
 mod replies;
+mod saves;
 mod shape;
 mod snapshots;
 pub mod values;

@@ -1,9 +1,8 @@
 //! What a script opens: a text, or a file in an encoding. It is read, or the lowest rule that it breaks is told.
-ghost use Rattle.std.specs.Prelude.{◌≡◌, codes, option_map, Some, None, IfOk, IfErr};
+ghost use Rattle.std.specs.Prelude.{◌≡◌, codes, Some, None, IfOk, IfErr};
 ghost use Rattle.std.specs.List.{list_all};
 ghost use Rattle.serde_json.specs.Find.{get};
 ghost use Rattle.serde_json.specs.View.{view};
-ghost use Rattle.script.specs.Parts.{string_in};
 ghost use Rattle.script.specs.ScriptDocument.{encoding_of, opening_of};
 ghost use Rattle.script.specs.Rules.{first_broken, is_name, is_name_byte};
 ghost use Rattle.script.specs.Reading.{FaultIs, opening_tests};
@@ -11,7 +10,7 @@ ghost use Rattle.script.specs.Reading.{FaultIs, opening_tests};
 use crate::before::CommandFault;
 use crate::count::units_of;
 use crate::limits::MAX_NAME;
-use crate::parts::member_count;
+use crate::parts::{member_count, text_in};
 use crate::refusal::ScriptRule;
 use machine::{Encoding, Opening, Text};
 use points::MAX_UNITS;
@@ -20,7 +19,7 @@ use std::alloc::Global;
 
 // The encoding with this word.
 #[tactic(auto, unfolding(crate::specs::ScriptDocument::encoding_of))]
-fn encoding_of(word: &str) -> Option<Encoding>
+pub(crate) fn encoding_of(word: &str) -> Option<Encoding>
     ensures { result ≡ encoding_of word.now }
 {
     if word == "utf8" {
@@ -97,13 +96,6 @@ fn read_text(alloc: Global, value: &Value, text: &Value) -> Result<Opening, Comm
     }
     let text = Text::from_str(alloc, text)?;
     Ok(Opening::Text { text })
-}
-
-// The string that a member is.
-fn text_in<'v>(value: &'v Value, key: &str) -> Option<&'v str>
-    ensures { option_map (λ s. s.now) result ≡ string_in key.now (view value.now) }
-{
-    value.get(key)?.as_str()
 }
 
 // The opening that is a file.

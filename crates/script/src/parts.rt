@@ -1,10 +1,10 @@
 //! The parts of a script's JSON value: its members, its strings, its whole numbers and its ranges.
-ghost use Rattle.std.specs.Prelude.{◌≡◌, ◌<◌};
+ghost use Rattle.std.specs.Prelude.{◌≡◌, ◌<◌, option_map};
 ghost use Rattle.serde_json.specs.Find.{get};
-ghost use Rattle.serde_json.specs.View.{view};
+ghost use Rattle.serde_json.specs.View.{view, items_view};
 ghost use Rattle.script.specs.Parts.{member_count, item_count, string_in, whole_of, whole_in, flag_in, coordinate, point_from, range_between, range_of, range_in};
 ghost use Rattle.script.specs.Reading.{Gives};
-ghost use Rattle.script.specs.Rules.{is_do};
+ghost use Rattle.script.specs.Rules.{is_do, is_save, reads_in};
 ghost use Rattle.script.specs.declared.parts.Misfit.TheVariants.{NoMemory};
 
 use points::{MAX_COORD, Point, Range};
@@ -67,6 +67,13 @@ pub(crate) fn string_in<'v>(value: &'v Value, key: &str) -> Result<&'v str, Misf
     ensures { Gives (λ s. s.now) result (string_in key.now (view value.now)) }
 {
     member(value, key)?.as_str().ok_or(Misfit::Shape)
+}
+
+// The string that a member is, where it is one.
+pub(crate) fn text_in<'v>(value: &'v Value, key: &str) -> Option<&'v str>
+    ensures { option_map (λ s. s.now) result ≡ string_in key.now (view value.now) }
+{
+    value.get(key)?.as_str()
 }
 
 // The whole number that the value is, where that is at most `limit`.
@@ -150,6 +157,32 @@ pub(crate) fn is_do(value: &Value, word: &str) -> bool
             Some(found) => found == word,
             None => false,
         },
+        None => false,
+    }
+}
+
+// The reads of a `read` or a `send`; nothing else has any.
+pub(crate) fn listed_reads<'v>(value: &'v Value) -> &'v [Value]
+    ensures { items_view result.now ≡ reads_in (view value.now) }
+{
+    if !is_do(value, "read") && !is_do(value, "send") {
+        return &[];
+    }
+    match value.get("reads") {
+        Some(reads) => match reads.as_array() {
+            Some(items) => items.as_slice(),
+            None => &[],
+        },
+        None => &[],
+    }
+}
+
+// Whether a read saves.
+pub(crate) fn is_save(value: &Value) -> bool
+    ensures { result ≡ is_save (view value.now) }
+{
+    match text_in(value, "get") {
+        Some(word) => word == "save",
         None => false,
     }
 }

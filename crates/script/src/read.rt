@@ -10,8 +10,9 @@ use crate::before::{Before, CommandFault};
 use crate::commands::command_of;
 use crate::opening::read_opening;
 use crate::parts::{Misfit, item_count, member, member_count};
-use crate::reads::has_needles;
+use crate::reads::{has_needles, unread_rule};
 use crate::refusal::{ScriptRefusal, ScriptRule};
+use crate::saves::names_in;
 use crate::shape::is_misshapen;
 use machine::{Command, Opening, Script, Sequence};
 use serde_json::Value;
@@ -29,7 +30,8 @@ fn read_command(alloc: Global, before: &mut Before, value: &Value) -> Result<Com
             why: ScriptRule::BadShape,
         });
     }
-    if before.is_too_many(value) {
+    let names = names_in(alloc, value)?;
+    if before.is_too_many(value, names.len()) {
         return Err(CommandFault::Breaks {
             why: ScriptRule::TooMany,
         });
@@ -46,9 +48,10 @@ fn read_command(alloc: Global, before: &mut Before, value: &Value) -> Result<Com
     }
     let command = match command_of(alloc, value) {
         Ok(command) => command,
-        Err(Misfit::Shape) => return Err(CommandFault::Breaks {
-            why: ScriptRule::BadNumber,
-        }),
+        Err(Misfit::Shape) => {
+            let why = unread_rule(alloc, value)?;
+            return Err(CommandFault::Breaks { why });
+        }
         Err(Misfit::NoMemory) => return Err(CommandFault::NoMemory),
     };
     if !has_needles(&command) {
@@ -56,7 +59,12 @@ fn read_command(alloc: Global, before: &mut Before, value: &Value) -> Result<Com
             why: ScriptRule::EmptyNeedle,
         });
     }
-    before.add(value)?;
+    if before.refuses_names(names.as_slice()) {
+        return Err(CommandFault::Breaks {
+            why: ScriptRule::BadName,
+        });
+    }
+    before.add(value, names)?;
     Ok(command)
 }
 

@@ -1,16 +1,22 @@
 //! The reads of a snapshot, each read from the members that its word asks for.
-ghost use Rattle.std.specs.Prelude.{◌≡◌};
+ghost use Rattle.std.specs.Prelude.{◌≡◌, IfOk};
 ghost use Rattle.std.specs.List.{list_all};
 ghost use Rattle.serde_json.specs.View.{view, items_view};
 ghost use Rattle.script.specs.Limits.{has_needle, has_needles};
-ghost use Rattle.script.specs.ScriptDocument.{size_of, look_read_of, find_of, pattern_of, read_of, reads_of, listed_reads};
-ghost use Rattle.script.specs.Reading.{Gives};
+ghost use Rattle.script.specs.Rules.{any_item};
+ghost use Rattle.script.specs.ScriptDocument.{encoding_in, size_of, look_read_of, find_of, pattern_of, save_of, read_of, reads_of, listed_reads};
+ghost use Rattle.script.specs.Reading.{Gives, is_unread, unread_rule};
 
+use crate::before::snapshot_in;
 use crate::limits::{MAX_HITS, MAX_SHOWN};
-use crate::parts::{Misfit, member, member_count, range_in, string_in, whole_in};
-use machine::{Command, Read, Sequence, Text};
+use crate::opening::encoding_of;
+use crate::parts::{
+    Misfit, is_save, listed_reads, member, member_count, range_in, string_in, whole_in,
+};
+use crate::refusal::ScriptRule;
+use machine::{Command, Encoding, Read, Sequence, Text};
 use serde_json::Value;
-use std::alloc::Global;
+use std::alloc::{AllocError, Global};
 
 // The size of the text.
 #[tactic(auto, unfolding(crate::specs::ScriptDocument::size_of))]
@@ -64,6 +70,27 @@ fn pattern_of(alloc: Global, value: &Value) -> Result<Read, Misfit>
     Ok(Read::Pattern { pattern, limit })
 }
 
+// The encoding that a member names.
+fn encoding_in(value: &Value) -> Result<Encoding, Misfit>
+    ensures { Gives (λ e. e) result (encoding_in (view value.now)) }
+{
+    encoding_of(string_in(value, "encoding")?).ok_or(Misfit::Shape)
+}
+
+// A save to a file.
+#[tactic(auto, unfolding(crate::specs::ScriptDocument::save_of))]
+fn save_of(alloc: Global, value: &Value) -> Result<Read, Misfit>
+    ensures { Gives (λ r. r) result (save_of (view value.now)) }
+{
+    if member_count(value) != 3 {
+        return Err(Misfit::Shape);
+    }
+    let encoding = encoding_in(value)?;
+    let name = string_in(value, "name")?;
+    let name = Text::from_str(alloc, name)?;
+    Ok(Read::Save { name, encoding })
+}
+
 // A read, by its word.
 #[tactic(auto, unfolding(crate::specs::ScriptDocument::read_of))]
 fn read_of(alloc: Global, value: &Value) -> Result<Read, Misfit>
@@ -81,6 +108,9 @@ fn read_of(alloc: Global, value: &Value) -> Result<Read, Misfit>
     }
     if word == "pattern" {
         return pattern_of(alloc, value);
+    }
+    if word == "save" {
+        return save_of(alloc, value);
     }
     Err(Misfit::Shape)
 }
@@ -133,5 +163,46 @@ pub(crate) fn has_needles(command: &Command) -> bool
     match command {
         Command::Read { reads, .. } | Command::Send { reads, .. } => have_needles(reads.as_slice()),
         _ => true,
+    }
+}
+
+// Whether one of these isn't read: of the saves, or of the other reads.
+fn are_unread(alloc: Global, save: bool, reads: &[Value]) -> Result<bool, AllocError>
+    ensures { IfOk result (λ b. b ≡ any_item (is_unread save) (items_view reads.now)) }
+{
+    for read in reads {
+        if is_unread(alloc, save, read)? {
+            return Ok(true);
+        }
+    }
+    Ok(false)
+}
+
+fn is_unread(alloc: Global, save: bool, read: &Value) -> Result<bool, AllocError>
+    ensures { IfOk result (λ b. b ≡ is_unread save (view read.now)) }
+{
+    let asked = if save { is_save(read) } else { !is_save(read) };
+    if !asked {
+        return Ok(false);
+    }
+    match read_of(alloc, read) {
+        Ok(_) => Ok(false),
+        Err(Misfit::Shape) => Ok(true),
+        Err(Misfit::NoMemory) => Err(AllocError),
+    }
+}
+
+/// The rule that a command breaks whose members have the right kinds and that isn't read. Its numbers are looked at before its
+/// encodings.
+pub(crate) fn unread_rule(alloc: Global, value: &Value) -> Result<ScriptRule, AllocError>
+    ensures { IfOk result (λ why. why ≡ unread_rule (view value.now)) }
+{
+    let reads = listed_reads(value);
+    let encodings = are_unread(alloc, true, reads)?;
+    let numbers = are_unread(alloc, false, reads)?;
+    if encodings && snapshot_in(value).is_some() && !numbers {
+        Ok(ScriptRule::BadEncoding)
+    } else {
+        Ok(ScriptRule::BadNumber)
     }
 }

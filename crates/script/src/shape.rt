@@ -1,12 +1,12 @@
 //! Whether the shape of a command or of a read is broken: a member that is missing, that no row has or that holds
-//! another kind of value, or a word that isn't built.
+//! another kind of value, or a command's word that isn't built.
 ghost use Rattle.std.specs.Prelude.{◌≡◌, ◌==◌, ◌&&◌, ◌||◌, not, codes, true, false, Some};
 ghost use Rattle.serde_json.specs.Find.{get};
 ghost use Rattle.serde_json.specs.View.{view, items_view};
 ghost use Rattle.script.specs.declared.limits.TheConstants.{MAX_SHOWN, MAX_HITS, MAX_ID};
 ghost use Rattle.script.specs.Parts.{count_items, string_in};
 ghost use Rattle.script.specs.Rows as kind;
-ghost use Rattle.script.specs.Rules.{field_breaks, with_reads, read_breaks, wrong_kind, is_misshapen, is_unbuilt_read, is_number, any_item, is_one_of};
+ghost use Rattle.script.specs.Rules.{field_breaks, with_reads, read_breaks, wrong_kind, is_misshapen, is_number, any_item, is_one_of};
 ghost use Rattle.script.specs.Rows.{how_words};
 ghost use Rattle.script.specs.Reading.{reads_break, read_members_break};
 
@@ -48,10 +48,12 @@ fn lacks_range(value: &Value) -> bool
     }
 }
 
-// Whether the member is a string; a needle is one too.
+// Whether the member is a string; a needle, a name and an encoding are one too.
 fn lacks_text(value: &Value, key: &str) -> bool
     ensures text { result ≡ field_breaks wrong_kind true kind.text (get key.now (view value.now)) }
     ensures needle { result ≡ field_breaks wrong_kind true kind.needle (get key.now (view value.now)) }
+    ensures name { result ≡ field_breaks wrong_kind true kind.name (get key.now (view value.now)) }
+    ensures encoding { result ≡ field_breaks wrong_kind true kind.encoding (get key.now (view value.now)) }
 {
     match value.get(key) {
         Some(text) => text.as_str().is_none(),
@@ -116,10 +118,10 @@ fn lacks_how(value: &Value) -> bool
     }
 }
 
-// Whether the shape of a read with this word is broken, or its word isn't built.
+// Whether the shape of a read with this word is broken.
 fn is_misshapen_get(word: &str, value: &Value) -> bool
     requires { string_in (codes "get") (view value.now) ≡ Some word.now }
-    ensures { result ≡ (is_unbuilt_read (view value.now) || read_breaks wrong_kind true (view value.now)) }
+    ensures { result ≡ read_breaks wrong_kind true (view value.now) }
 {
     if word == "size" {
         return member_count(value) != 1;
@@ -133,12 +135,17 @@ fn is_misshapen_get(word: &str, value: &Value) -> bool
     if word == "pattern" {
         return member_count(value) != 3 || lacks_text(value, "pattern") || lacks_limit(value);
     }
+    if word == "save" {
+        return member_count(value) != 3
+            || lacks_text(value, "name")
+            || lacks_text(value, "encoding");
+    }
     true
 }
 
-// Whether the shape of a read is broken, or its word isn't built.
+// Whether the shape of a read is broken.
 fn is_misshapen_read(value: &Value) -> bool
-    ensures { result ≡ (is_unbuilt_read (view value.now) || read_breaks wrong_kind true (view value.now)) }
+    ensures { result ≡ read_breaks wrong_kind true (view value.now) }
 {
     match value.get("get") {
         Some(word) => match word.as_str() {
@@ -149,9 +156,9 @@ fn is_misshapen_read(value: &Value) -> bool
     }
 }
 
-// Whether the shape of one of these reads is broken, or its word isn't built.
+// Whether the shape of one of these reads is broken.
 fn are_misshapen(items: &[Value]) -> bool
-    ensures { result ≡ any_item (λ r. is_unbuilt_read r || read_breaks wrong_kind true r) (items_view items.now) }
+    ensures { result ≡ any_item (read_breaks wrong_kind true) (items_view items.now) }
 {
     for item in items {
         if is_misshapen_read(item) {
@@ -161,7 +168,7 @@ fn are_misshapen(items: &[Value]) -> bool
     false
 }
 
-// Whether the member `reads` is no list, or one of its reads is broken or isn't built.
+// Whether the member `reads` is no list, or one of its reads is broken.
 fn lacks_reads(value: &Value) -> bool
     ensures { result ≡ reads_break (get (codes "reads") (view value.now)) }
 {
@@ -174,7 +181,7 @@ fn lacks_reads(value: &Value) -> bool
     }
 }
 
-// Whether the members of a command that reads a snapshot are broken, or one of its reads isn't built.
+// Whether the members of a command that reads a snapshot are broken, or one of its reads is.
 fn lacks_members_of_read(value: &Value) -> bool
     ensures { result ≡ read_members_break (view value.now) }
 {

@@ -23,33 +23,33 @@ first_true : (a b : Bool) → (a || b) ≡ true → b ≡ false → a ≡ true
 first_true true b h e = refl
 first_true false b h e = cc
 
-module _ {X : Type 0} {D : X → Type 0} where
-  count_next : (n i : ℕ) (os : List (Option (Seat X D))) (o : Option (Seat X D)) → i < length os → o ≡ get_or os i o → is_below n o ≡ true → count_below n (drop i os) ≡ suc (count_below n (drop (suc i) os))
+module _ {W : Type 0} where
+  count_next : (n i : ℕ) (os : List (Option (Seat W))) (o : Option (Seat W)) → i < length os → o ≡ get_or os i o → is_below n o ≡ true → count_below n (drop i os) ≡ suc (count_below n (drop (suc i) os))
   count_next n i [] o h is b = absurd (omega arith)
   count_next n zero (x ∷ xs) o h is b = let e : is_below n x ≡ true = ap (λ y. is_below n y) (sym is) ∙ b in rw e refl
   count_next n (suc i) (x ∷ xs) o h is b = count_next n i xs o (omega arith) is b
 
-  count_stops : (n i : ℕ) (os : List (Option (Seat X D))) (o : Option (Seat X D)) → i < length os → o ≡ get_or os i o → is_below n o ≡ false → count_below n (drop i os) ≡ 0
+  count_stops : (n i : ℕ) (os : List (Option (Seat W))) (o : Option (Seat W)) → i < length os → o ≡ get_or os i o → is_below n o ≡ false → count_below n (drop i os) ≡ 0
   count_stops n i [] o h is b = absurd (omega arith)
   count_stops n zero (x ∷ xs) o h is b = let e : is_below n x ≡ false = ap (λ y. is_below n y) (sym is) ∙ b in rw e refl
   count_stops n (suc i) (x ∷ xs) o h is b = count_stops n i xs o (omega arith) is b
 
   -- the pass over the slots: the next has a lower id, or it hasn't, or there is none
-  pub place_goes_on : (n i : ℕ) (os : List (Option (Seat X D))) (o : Option (Seat X D)) → i < length os → o ≡ get_or os i o → is_below n o ≡ true → i + count_below n (drop i os) ≡ count_below n os → (i + 1) + count_below n (drop (i + 1) os) ≡ count_below n os
+  pub place_goes_on : (n i : ℕ) (os : List (Option (Seat W))) (o : Option (Seat W)) → i < length os → o ≡ get_or os i o → is_below n o ≡ true → i + count_below n (drop i os) ≡ count_below n os → (i + 1) + count_below n (drop (i + 1) os) ≡ count_below n os
   place_goes_on n i os o h is b e = let next = count_next n i os o h is b in rw add-one (omega (arith, next, e))
 
-  pub place_stops : (n i : ℕ) (os : List (Option (Seat X D))) (o : Option (Seat X D)) → i < length os → o ≡ get_or os i o → is_below n o ≡ false → i + count_below n (drop i os) ≡ count_below n os → i ≡ count_below n os
+  pub place_stops : (n i : ℕ) (os : List (Option (Seat W))) (o : Option (Seat W)) → i < length os → o ≡ get_or os i o → is_below n o ≡ false → i + count_below n (drop i os) ≡ count_below n os → i ≡ count_below n os
   place_stops n i os o h is b e = let none = count_stops n i os o h is b in omega (arith, none, e)
 
-  pub place_ends : (n i : ℕ) (os : List (Option (Seat X D))) → length os ≤ i → i + count_below n (drop i os) ≡ count_below n os → i ≡ count_below n os
+  pub place_ends : (n i : ℕ) (os : List (Option (Seat W))) → length os ≤ i → i + count_below n (drop i os) ≡ count_below n os → i ≡ count_below n os
   place_ends n i os h e = let none : count_below n (drop i os) ≡ 0 = ap (λ l. count_below n l) (drop_of_length-le os {i = i} h) in omega (arith, none, e)
 
-  pub count_within : (n : ℕ) (os : List (Option (Seat X D))) → count_below n os ≤ length os
+  pub count_within : (n : ℕ) (os : List (Option (Seat W))) → count_below n os ≤ length os
   count_within n [] = omega arith
   count_within n (o ∷ os) = one_more (is_below n o) (count_below n os) (length os) (count_within n os)
 
   -- where all are above n, there is none of n
-  none_below : (n m : ℕ) (os : List (Option (Seat X D))) → RisesFrom m os → n < m → is_there n os ≡ false
+  none_below : (n m : ℕ) (os : List (Option (Seat W))) → RisesFrom m os → n < m → is_there n os ≡ false
   none_below n m [] r h = refl
   none_below n m (None ∷ os) r h = absurd r
   none_below n m (Some s ∷ os) r h =
@@ -58,7 +58,7 @@ module _ {X : Type 0} {D : X → Type 0} where
       rw e (none_below n (suc s.id) os r.1 (omega (arith, low, h)))
 
   -- the place that the count tells holds the seat of n, where there is one
-  pub here_there : (n m : ℕ) (os : List (Option (Seat X D))) (o : Option (Seat X D)) → RisesFrom m os → count_below n os < length os → o ≡ get_or os (count_below n os) o → is_of n o ≡ is_there n os
+  pub here_there : (n m : ℕ) (os : List (Option (Seat W))) (o : Option (Seat W)) → RisesFrom m os → count_below n os < length os → o ≡ get_or os (count_below n os) o → is_of n o ≡ is_there n os
   here_there n m [] o r l is = absurd (omega arith)
   here_there n m (None ∷ os) o r l is = absurd r
   here_there n m (Some s ∷ os) o r l is = elim (cases_lt s.id n) [
@@ -72,7 +72,7 @@ module _ {X : Type 0} {D : X → Type 0} where
         rw (next, none_below n (suc s.id) os r.1 (omega (arith, high))) (or_false (s.id == n))
   ]
 
-  pub not_here : (n m : ℕ) (os : List (Option (Seat X D))) → RisesFrom m os → length os ≤ count_below n os → false ≡ is_there n os
+  pub not_here : (n m : ℕ) (os : List (Option (Seat W))) → RisesFrom m os → length os ≤ count_below n os → false ≡ is_there n os
   not_here n m [] r l = refl
   not_here n m (None ∷ os) r l = absurd r
   not_here n m (Some s ∷ os) r l = elim (cases_lt s.id n) [
@@ -86,13 +86,13 @@ module _ {X : Type 0} {D : X → Type 0} where
   ]
 
   -- the seat of n, and where it is
-  pub record Found (n : ℕ) (os : List (Option (Seat X D))) : Type 0 where
-    pub seat : Seat X D
+  pub record Found (n : ℕ) (os : List (Option (Seat W))) : Type 0 where
+    pub seat : Seat W
     pub within : count_below n os < length os
-    pub here : (d : Option (Seat X D)) → get_or os (count_below n os) d ≡ Some seat
+    pub here : (d : Option (Seat W)) → get_or os (count_below n os) d ≡ Some seat
     pub first : slot_of n os ≡ Some seat
 
-  pub found : (n m : ℕ) (os : List (Option (Seat X D))) → RisesFrom m os → is_there n os ≡ true → Found n os
+  pub found : (n m : ℕ) (os : List (Option (Seat W))) → RisesFrom m os → is_there n os ≡ true → Found n os
   found n m [] r t = absurd (false≢true t)
   found n m (None ∷ os) r t = absurd r
   found n m (Some s ∷ os) r t = elim (cases_lt s.id n) [
@@ -106,12 +106,12 @@ module _ {X : Type 0} {D : X → Type 0} where
         record { seat = s; within = rw (le-ltb s.id n high) (omega arith); here = λ d. rw (le-ltb s.id n high) refl; first = rw e refl }
   ]
 
-  pub slot_none : (n : ℕ) (os : List (Option (Seat X D))) → is_there n os ≡ false → slot_of n os ≡ None
+  pub slot_none : (n : ℕ) (os : List (Option (Seat W))) → is_there n os ≡ false → slot_of n os ≡ None
   slot_none n [] h = refl
   slot_none n (o ∷ os) h = let none = both_false (is_of n o) (is_there n os) h in rw none.0 (slot_none n os none.1)
 
   -- the ids still rise when one is put in or taken out
-  pub insert_rises : (n m : ℕ) (s : Seat X D) (os : List (Option (Seat X D))) → RisesFrom m os → m ≤ n → s.id ≡ n → is_there n os ≡ false → RisesFrom m (insert os (count_below n os) (Some s))
+  pub insert_rises : (n m : ℕ) (s : Seat W) (os : List (Option (Seat W))) → RisesFrom m os → m ≤ n → s.id ≡ n → is_there n os ≡ false → RisesFrom m (insert os (count_below n os) (Some s))
   insert_rises n m s [] r h e t = (omega (arith, h, e), record {})
   insert_rises n m s (None ∷ os) r h e t = absurd r
   insert_rises n m s (Some x ∷ os) r h e t =
@@ -124,12 +124,12 @@ module _ {X : Type 0} {D : X → Type 0} where
             rw (le-ltb x.id n high) (omega (arith, h, e), (above, r.1))
       ]
 
-  rises_lower : (m k : ℕ) (os : List (Option (Seat X D))) → m ≤ k → RisesFrom k os → RisesFrom m os
+  rises_lower : (m k : ℕ) (os : List (Option (Seat W))) → m ≤ k → RisesFrom k os → RisesFrom m os
   rises_lower m k [] h r = r
   rises_lower m k (None ∷ os) h r = absurd r
   rises_lower m k (Some s ∷ os) h r = let low = r.0 in (omega (arith, low, h), r.1)
 
-  pub remove_rises : (k m : ℕ) (os : List (Option (Seat X D))) → RisesFrom m os → RisesFrom m (remove os k)
+  pub remove_rises : (k m : ℕ) (os : List (Option (Seat W))) → RisesFrom m os → RisesFrom m (remove os k)
   remove_rises zero m [] r = r
   remove_rises (suc k) m [] r = r
   remove_rises k m (None ∷ os) r = absurd r
@@ -137,27 +137,27 @@ module _ {X : Type 0} {D : X → Type 0} where
   remove_rises (suc k) m (Some s ∷ os) r = (r.0, remove_rises k (suc s.id) os r.1)
 
   -- what holds of each seat
-  pub insert_seats : (K : Seat X D → Type 0) (k : ℕ) (s : Seat X D) (os : List (Option (Seat X D))) → AreSeats K os → K s → AreSeats K (insert os k (Some s))
+  pub insert_seats : (K : Seat W → Type 0) (k : ℕ) (s : Seat W) (os : List (Option (Seat W))) → AreSeats K os → K s → AreSeats K (insert os k (Some s))
   insert_seats K zero s [] a h = (h, a)
   insert_seats K (suc k) s [] a h = (h, a)
   insert_seats K zero s (o ∷ os) a h = (h, a)
   insert_seats K (suc k) s (o ∷ os) a h = (a.0, insert_seats K k s os a.1 h)
 
-  pub remove_seats : (K : Seat X D → Type 0) (k : ℕ) (os : List (Option (Seat X D))) → AreSeats K os → AreSeats K (remove os k)
+  pub remove_seats : (K : Seat W → Type 0) (k : ℕ) (os : List (Option (Seat W))) → AreSeats K os → AreSeats K (remove os k)
   remove_seats K zero [] a = a
   remove_seats K (suc k) [] a = a
   remove_seats K zero (o ∷ os) a = a.1
   remove_seats K (suc k) (o ∷ os) a = (a.0, remove_seats K k os a.1)
 
   -- the slots stand as they should when a seat is put in or taken out
-  pub insert_stands : (K : Seat X D → Type 0) (told n : ℕ) (s : Seat X D) (os : List (Option (Seat X D))) → Stands K told os → s.id ≡ n → s.told ≡ 0 → is_there n os ≡ false → K s → Stands K told (insert os (count_below n os) (Some s))
+  pub insert_stands : (K : Seat W → Type 0) (told n : ℕ) (s : Seat W) (os : List (Option (Seat W))) → Stands K told os → s.id ≡ n → s.told ≡ 0 → is_there n os ≡ false → K s → Stands K told (insert os (count_below n os) (Some s))
   insert_stands K told n s os h e z t k = record {
     order = insert_rises n 0 s os h.order (omega arith) e t;
     kept = insert_seats K (count_below n os) s os h.kept k;
     few = insert_seats (λ x. x.told ≤ told) (count_below n os) s os h.few (omega (arith, z));
   }
 
-  pub remove_stands : (K : Seat X D → Type 0) (told k : ℕ) (os : List (Option (Seat X D))) → Stands K told os → Stands K told (remove os k)
+  pub remove_stands : (K : Seat W → Type 0) (told k : ℕ) (os : List (Option (Seat W))) → Stands K told os → Stands K told (remove os k)
   remove_stands K told k os h = record {
     order = remove_rises k 0 os h.order;
     kept = remove_seats K k os h.kept;
@@ -165,17 +165,17 @@ module _ {X : Type 0} {D : X → Type 0} where
   }
 
   -- what the calls read of a slice is true of the slots
-  pub tested : (n : ℕ) (os qs : List (Option (Seat X D))) (b t : Bool) → qs ≡ os → b ≡ is_there n qs → b ≡ t → is_there n os ≡ t
-  tested n os qs b t q e h = ap (λ (l : List (Option (Seat X D))). is_there n l) (sym q) ∙ (sym e ∙ h)
+  pub tested : (n : ℕ) (os qs : List (Option (Seat W))) (b t : Bool) → qs ≡ os → b ≡ is_there n qs → b ≡ t → is_there n os ≡ t
+  tested n os qs b t q e h = ap (λ (l : List (Option (Seat W))). is_there n l) (sym q) ∙ (sym e ∙ h)
 
-  pub placed : (n p : ℕ) (os qs : List (Option (Seat X D))) → qs ≡ os → p ≡ count_below n qs → p ≡ count_below n os
-  placed n p os qs q e = e ∙ ap (λ (l : List (Option (Seat X D))). count_below n l) q
+  pub placed : (n p : ℕ) (os qs : List (Option (Seat W))) → qs ≡ os → p ≡ count_below n qs → p ≡ count_below n os
+  placed n p os qs q e = e ∙ ap (λ (l : List (Option (Seat W))). count_below n l) q
 
-  pub put_in : (n p : ℕ) (s : Seat X D) (os news : List (Option (Seat X D))) → p ≡ count_below n os → news ≡ insert os p (Some s) → news ≡ insert os (count_below n os) (Some s)
+  pub put_in : (n p : ℕ) (s : Seat W) (os news : List (Option (Seat W))) → p ≡ count_below n os → news ≡ insert os p (Some s) → news ≡ insert os (count_below n os) (Some s)
   put_in n p s os news e h = h ∙ ap (λ (k : ℕ). insert os k (Some s)) e
 
-  pub put_out : (n p : ℕ) (os news : List (Option (Seat X D))) → p ≡ count_below n os → news ≡ remove os p → news ≡ remove os (count_below n os)
+  pub put_out : (n p : ℕ) (os news : List (Option (Seat W))) → p ≡ count_below n os → news ≡ remove os p → news ≡ remove os (count_below n os)
   put_out n p os news e h = h ∙ ap (λ (k : ℕ). remove os k) e
 
-  pub taken_out : (n p : ℕ) (os : List (Option (Seat X D))) (d : Option (Seat X D)) (f : Found n os) → p ≡ count_below n os → d ≡ get_or os p d → d ≡ Some f.seat
+  pub taken_out : (n p : ℕ) (os : List (Option (Seat W))) (d : Option (Seat W)) (f : Found n os) → p ≡ count_below n os → d ≡ get_or os p d → d ≡ Some f.seat
   taken_out n p os d f e h = h ∙ (ap (λ (k : ℕ). get_or os k d) e ∙ f.here d)

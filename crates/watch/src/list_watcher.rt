@@ -1,4 +1,4 @@
-ghost use Rattle.std.specs.Prelude.{◌≡◌, ◌≤◌, [], Some, None, IfOk, if◌then◌else◌, nat_le, vec_len, vec_capacity};
+ghost use Rattle.std.specs.Prelude.{◌≡◌, ◌≤◌, [], IfOk, vec_len, vec_capacity};
 
 use crate::watcher::{Heard, Watcher};
 use patch::Change;
@@ -32,9 +32,11 @@ impl ListWatcher {
 }
 
 impl Watcher for ListWatcher {
-    ghost count_of = { λ w. w.count };
+    ghost use Rattle.watch.specs.Listed.{heard_count, heard_list};
 
-    ghost list_of = { λ w. if nat_le w.count w.room then Some w.list.items else None };
+    ghost count_of = { heard_count };
+
+    ghost list_of = { heard_list };
 
     fn changed(&mut self, change: &Change) {
         if self.count < self.room as u64 {

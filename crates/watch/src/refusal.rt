@@ -1,12 +1,10 @@
-use crate::watcher::Watcher;
-
 /// Why a watcher isn't attached. The watcher comes back.
 #[derive(Drop)]
-pub enum WatchBack {
+pub enum WatchBack<W> {
     /// A watcher of that id is attached already.
-    WatchTaken(Box<dyn Watcher>),
+    WatchTaken(Box<W>),
     /// As many as can be are attached.
-    WatchFull(Box<dyn Watcher>),
+    WatchFull(Box<W>),
 }
 
 /// No watcher of that id is attached.

@@ -1,10 +1,10 @@
 //! The watchers that are attached to a text.
 ghost use Rattle.std.specs.Prelude.{◌≡◌, ◌+◌, ◌-◌, ◌<◌, ◌≤◌, ◌^◌, ◌↔◌, ◌⊎◌, true, false, [], length, remove, MatchOption, IsErr, IfErr, OnOk, OnErr};
 ghost use Rattle.watch.specs.Log.{log_of};
-ghost use Rattle.watch.specs.Seats.{Holds, AreSeats, WasTold, Follows, AllFollow, Inserts, is_below, is_there, slot_of, RisesFrom, count_below, Stands, is_of};
+ghost use Rattle.watch.specs.Seats.{HasHeard, Holds, AreSeats, WasTold, Follows, AllFollow, Inserts, is_below, is_there, slot_of, RisesFrom, count_below, Stands, is_of};
 
 use crate::refusal::{WatchBack, WatchUnknown};
-use crate::seat::{Listens, Seat};
+use crate::seat::Seat;
 use crate::watcher::Watcher;
 use arrayvec::ArrayVec;
 use patch::Change;
@@ -12,19 +12,19 @@ use points::MAX_WATCHERS;
 
 /// The watchers that are attached, in rising order of ids.
 #[derive(Drop)]
-pub struct Watchers {
+pub struct Watchers<W> {
     /// The places taken so far. Each holds a watcher.
-    pub seats: ArrayVec<Option<Seat>, MAX_WATCHERS>,
+    pub seats: ArrayVec<Option<Seat<W>>, MAX_WATCHERS>,
     /// How many changes were told.
     pub told: u64,
 }
 
-impl Watchers {
+impl<W: Watcher> Watchers<W> {
     /// None.
-    pub fn new() -> Watchers
+    pub fn new() -> Watchers<W>
         ensures seats { result.seats.items ≡ [] }
         ensures told { result.told ≡ 0 }
-        ensures stands { Stands (λ s. ⟦<Seat as Listens>⟧.kept s) result.told result.seats.items }
+        ensures stands { Stands (HasHeard W.count_of W.list_of) result.told result.seats.items }
     {
         Watchers {
             seats: ArrayVec::new(),
@@ -33,9 +33,9 @@ impl Watchers {
     }
 
     /// Attaches a watcher under an id. It was told nothing yet. Where that can't be, the watcher comes back.
-    pub fn attach(&mut self, id: u32, watcher: Box<dyn Watcher>) -> Result<(), WatchBack>
-        requires few { count_of watcher ≤ 2 ^ 63 }
-        requires stands { Stands (λ s. ⟦<Seat as Listens>⟧.kept s) self.old.told self.old.seats.items }
+    pub fn attach(&mut self, id: u32, watcher: Box<W>) -> Result<(), WatchBack<W>>
+        requires few { W.count_of watcher.value ≤ 2 ^ 63 }
+        requires stands { Stands (HasHeard W.count_of W.list_of) self.old.told self.old.seats.items }
         ensures taken { (result ≡ Err (WatchBack.WatchTaken watcher)) ↔ (is_there id self.old.seats.items ≡ true) }
         ensures full { (result ≡ Err (WatchBack.WatchFull watcher)) ↔ ((is_there id self.old.seats.items ≡ false) × (length self.old.seats.items ≡ MAX_WATCHERS)) }
         ensures back { IfErr result (λ back. (back ≡ WatchBack.WatchTaken watcher) ⊎ (back ≡ WatchBack.WatchFull watcher)) }
@@ -44,7 +44,7 @@ impl Watchers {
         ensures ok { OnOk result (Inserts (λ s. (s.id ≡ id) × (s.told ≡ 0) × (s.watcher ≡ watcher) × (s.opened.value ≡ watcher) × (log_of s.log ≡ []))
             (count_below id self.old.seats.items) self.old.seats.items self.new.seats.items) }
         ensures count { self.new.told ≡ self.old.told }
-        ensures stands { Stands (λ s. ⟦<Seat as Listens>⟧.kept s) self.new.told self.new.seats.items }
+        ensures stands { Stands (HasHeard W.count_of W.list_of) self.new.told self.new.seats.items }
     {
         let at = place_of(self.seats.as_slice(), id);
         if is_there(self.seats.as_slice(), at, id) {
@@ -58,14 +58,14 @@ impl Watchers {
     }
 
     /// Takes a watcher off. It comes back with the number of changes that it was told.
-    pub fn detach(&mut self, id: u32) -> Result<(Box<dyn Watcher>, u64), WatchUnknown>
-        requires stands { Stands (λ s. ⟦<Seat as Listens>⟧.kept s) self.old.told self.old.seats.items }
+    pub fn detach(&mut self, id: u32) -> Result<(Box<W>, u64), WatchUnknown>
+        requires stands { Stands (HasHeard W.count_of W.list_of) self.old.told self.old.seats.items }
         ensures unknown { IsErr result ↔ (is_there id self.old.seats.items ≡ false) }
         ensures answer { MatchOption (slot_of id self.old.seats.items) (IsErr result) (λ s. result ≡ Ok (s.watcher, s.told)) }
         ensures err { OnErr result (self.new.seats.items ≡ self.old.seats.items) }
         ensures ok { OnOk result (self.new.seats.items ≡ remove self.old.seats.items (count_below id self.old.seats.items)) }
         ensures count { self.new.told ≡ self.old.told }
-        ensures stands { Stands (λ s. ⟦<Seat as Listens>⟧.kept s) self.new.told self.new.seats.items }
+        ensures stands { Stands (HasHeard W.count_of W.list_of) self.new.told self.new.seats.items }
     {
         let at = place_of(self.seats.as_slice(), id);
         if !is_there(self.seats.as_slice(), at, id) {
@@ -77,10 +77,10 @@ impl Watchers {
     /// Tells each watcher a change, in rising order of ids.
     pub fn tell(&mut self, change: &Change)
         requires few { self.old.told < 2 ^ 63 - 1 }
-        requires stands { Stands (λ s. ⟦<Seat as Listens>⟧.kept s) self.old.told self.old.seats.items }
+        requires stands { Stands (HasHeard W.count_of W.list_of) self.old.told self.old.seats.items }
         ensures told { AllFollow (WasTold change.now) self.old.seats.items self.new.seats.items }
         ensures count { self.new.told ≡ self.old.told + 1 }
-        ensures stands { Stands (λ s. ⟦<Seat as Listens>⟧.kept s) self.new.told self.new.seats.items }
+        ensures stands { Stands (HasHeard W.count_of W.list_of) self.new.told self.new.seats.items }
     {
         tell_slots(self.seats.as_mut_slice(), change);
         self.told += 1;
@@ -88,11 +88,11 @@ impl Watchers {
 }
 
 // Tells each a change, in turn.
-fn tell_slots(slots: &mut [Option<Seat>], change: &Change)
+fn tell_slots<W: Watcher>(slots: &mut [Option<Seat<W>>], change: &Change)
     requires few { AreSeats (λ s. s.told < 2 ^ 63 - 1) slots.old }
-    requires kept { AreSeats (λ s. ⟦<Seat as Listens>⟧.kept s) slots.old }
+    requires kept { AreSeats (HasHeard W.count_of W.list_of) slots.old }
     ensures told { AllFollow (WasTold change.now) slots.old slots.new }
-    ensures kept { AreSeats (λ t. ⟦<Seat as Listens>⟧.kept t) slots.new }
+    ensures kept { AreSeats (HasHeard W.count_of W.list_of) slots.new }
 {
     for slot in slots.iter_mut() {
         tell_slot(slot, change);
@@ -100,11 +100,11 @@ fn tell_slots(slots: &mut [Option<Seat>], change: &Change)
 }
 
 // Tells the one in a slot a change.
-fn tell_slot(slot: &mut Option<Seat>, change: &Change)
+fn tell_slot<W: Watcher>(slot: &mut Option<Seat<W>>, change: &Change)
     requires few { Holds (λ s. s.told < 2 ^ 63 - 1) slot.old }
-    requires kept { Holds (λ s. ⟦<Seat as Listens>⟧.kept s) slot.old }
+    requires kept { Holds (HasHeard W.count_of W.list_of) slot.old }
     ensures told { Follows (WasTold change.now) slot.old slot.new }
-    ensures kept { Holds (λ t. ⟦<Seat as Listens>⟧.kept t) slot.new }
+    ensures kept { Holds (HasHeard W.count_of W.list_of) slot.new }
 {
     if let Some(seat) = slot {
         seat.tell(change);
@@ -112,7 +112,7 @@ fn tell_slot(slot: &mut Option<Seat>, change: &Change)
 }
 
 // The watcher of the seat in a slot, and how many changes it was told.
-fn parted(slot: Option<Seat>) -> Result<(Box<dyn Watcher>, u64), WatchUnknown>
+fn parted<W: Watcher>(slot: Option<Seat<W>>) -> Result<(Box<W>, u64), WatchUnknown>
     ensures { MatchOption slot (IsErr result) (λ s. result ≡ Ok (s.watcher, s.told)) }
 {
     let Some(seat) = slot else {
@@ -129,7 +129,7 @@ fn parted(slot: Option<Seat>) -> Result<(Box<dyn Watcher>, u64), WatchUnknown>
 }
 
 // How many of the seats have a lower id.
-fn place_of(seats: &[Option<Seat>], id: u32) -> usize
+fn place_of<W: Watcher>(seats: &[Option<Seat<W>>], id: u32) -> usize
     ensures { result ≡ count_below id seats.now }
 {
     for (at, slot) in seats.iter().enumerate() {
@@ -141,7 +141,7 @@ fn place_of(seats: &[Option<Seat>], id: u32) -> usize
 }
 
 // Whether a slot's seat has a lower id.
-fn is_lower(slot: &Option<Seat>, id: u32) -> bool
+fn is_lower<W: Watcher>(slot: &Option<Seat<W>>, id: u32) -> bool
     ensures { result ≡ is_below id slot.now }
 {
     match slot {
@@ -151,7 +151,7 @@ fn is_lower(slot: &Option<Seat>, id: u32) -> bool
 }
 
 // Whether the seat of an id is there. Its place is known.
-fn is_there(seats: &[Option<Seat>], at: usize, id: u32) -> bool
+fn is_there<W: Watcher>(seats: &[Option<Seat<W>>], at: usize, id: u32) -> bool
     requires place { at ≡ count_below id seats.now }
     requires order { RisesFrom 0 seats.now }
     ensures { result ≡ is_there id seats.now }
@@ -160,7 +160,7 @@ fn is_there(seats: &[Option<Seat>], at: usize, id: u32) -> bool
 }
 
 // Whether a slot holds the seat of an id.
-fn is_seat(slot: &Option<Seat>, id: u32) -> bool
+fn is_seat<W: Watcher>(slot: &Option<Seat<W>>, id: u32) -> bool
     ensures { result ≡ is_of id slot.now }
 {
     match slot {

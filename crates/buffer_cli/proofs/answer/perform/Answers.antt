@@ -1,4 +1,4 @@
-use Rattle.std.proofs.Common.{◌≡◌, ℕ, List, length, map, refl, sym, subst, ap, ◌∙◌, arith}
+use Rattle.std.proofs.Common.{◌≡◌, ℕ, List, [], length, map, refl, sym, subst, ap, ◌∙◌, arith}
 use Rattle.points.specs.Text.{utf16_of, text_of}
 use Rattle.points.proofs.WellFormedLemmas.{well_formed-utf16_of}
 use Rattle.machine.specs.declared.command.Command.{Command}
@@ -11,17 +11,20 @@ use Rattle.buffer_cli.specs.Hits.{AreReplies}
 use Rattle.buffer_cli.proofs.LimitLemmas.{answerable}
 use Rattle.buffer_cli.proofs.PatternLemmas.{script_is, session_many}
 use Rattle.buffer_cli.proofs.RunLemmas.{AreWhole, lawful_run}
+use Rattle.machine.specs.Plain.{Kept}
+use Rattle.buffer_cli.specs.Saved.{TakeInTurn, saved_files}
+use Rattle.buffer_cli.proofs.SavedLemmas.{of_one}
 use Rattle.buffer_cli.proofs.answer.perform.Goals as goal
 
 pub answer_all-requires-clause-answered : goal.answer_all-requires-clause-answered
-answer_all-requires-clause-answered g c = λ κs lives. (answerable c.args.script.now c.commands_of.result.now c.commands_of.ensures c.requires.limits).answered
+answer_all-requires-clause-answered g c = λ κs lives. (answerable _ c.args.script.now c.commands_of.result.now c.commands_of.ensures c.requires.sinks c.requires.limits).answered
 
 pub answer_all-requires-clause-live : goal.answer_all-requires-clause-live
-answer_all-requires-clause-live g c = λ κs lives. (answerable c.args.script.now c.commands_of.result.now c.commands_of.ensures c.requires.limits).live
+answer_all-requires-clause-live g c = λ κs lives. (answerable _ c.args.script.now c.commands_of.result.now c.commands_of.ensures c.requires.sinks c.requires.limits).live
 
 pub answer_all-requires-clause-watches : goal.answer_all-requires-clause-watches
 answer_all-requires-clause-watches g c = λ κs lives.
-    let few = (answerable c.args.script.now c.commands_of.result.now c.commands_of.ensures c.requires.limits).watches in
+    let few = (answerable _ c.args.script.now c.commands_of.result.now c.commands_of.ensures c.requires.sinks c.requires.limits).watches in
     let many = c.requires.watchers in
     omega (arith, few, many)
 
@@ -36,8 +39,8 @@ pub answer_all-requires-clause-sound : goal.answer_all-requires-clause-sound
 answer_all-requires-clause-sound g c = λ κs lives.
     subst IsSound (sym c.in_ok-open.ensures.state) (sound_opened (utf16_of c.args.text.now) c.requires.short (well_formed-utf16_of c.args.text.now c.utf8.text))
 
-pub returns : goal.returns
-returns g c =
+pub returns-clause-lawful : goal.returns-clause-lawful
+returns-clause-lawful g c =
     let opening : List ℕ = utf16_of c.args.text.now in
     let commands : List Command = c.commands_of.result.now in
     let reached : state_of c.answer_all.new.session.buffer ≡ after (opened opening) (calls_of commands) =
@@ -48,3 +51,12 @@ returns g c =
     (subst (λ (s : State). AreReplies s (map g.M.Matcher.tells c.args.matchers.items) commands c.in_ok-replies.replies.items) c.in_ok-open.ensures.state c.in_ok-replies.ensures.replies)
     (rw (c.new-3.ensures, c.in_ok-push.ensures.items, c.new-sessions.ensures.items, c.new-2.ensures) refl)
     refl
+
+pub returns-clause-saved : goal.returns-clause-saved
+returns-clause-saved g c =
+    let before = map g.K.Sink.taken c.args.sinks.now.items in
+    let after = map g.K.Sink.taken c.answer_all.new.sinks.items in
+    let commands : List Command = c.commands_of.result.now in
+    let turns = subst (λ (s : State). TakeInTurn (saved_files s c.new.result commands) before after) c.in_ok-open.ensures.state c.in_ok-replies.ensures.saved in
+    of_one (λ cs. TakeInTurn (saved_files (opened (utf16_of c.args.text.now)) [] cs) before after) c.args.script.now.sessions commands c.commands_of.ensures
+    (subst (λ (held : List Kept). TakeInTurn (saved_files (opened (utf16_of c.args.text.now)) held commands) before after) c.new.ensures turns)

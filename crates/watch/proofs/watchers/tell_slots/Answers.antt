@@ -6,10 +6,10 @@ pub loop-slot-init : goal.loop-slot-init
 loop-slot-init g c = refl
 
 pub tell_slot-requires-clause-few : goal.tell_slot-requires-clause-few
-tell_slot-requires-clause-few g c = seat_next _ (λ s. s.told < 0x7FFF_FFFF_FFFF_FFFF) c.loop-slot.slot-index c.args.slots.now c.loop-slot.slots c.slot-item.result c.loop-slot.invariant c.loop-slot-test.true c.requires.few
+tell_slot-requires-clause-few g c = λ κs lives. seat_next _ (λ s. s.told < 0x7FFF_FFFF_FFFF_FFFF) c.loop-slot.slot-index c.args.slots.now c.loop-slot.slots c.slot-item.result c.loop-slot.invariant c.loop-slot-test.true c.requires.few
 
 pub tell_slot-requires-clause-kept : goal.tell_slot-requires-clause-kept
-tell_slot-requires-clause-kept g c = seat_next _ _ c.loop-slot.slot-index c.args.slots.now c.loop-slot.slots c.slot-item.result c.loop-slot.invariant c.loop-slot-test.true c.requires.kept
+tell_slot-requires-clause-kept g c = λ κs lives. seat_next _ _ c.loop-slot.slot-index c.args.slots.now c.loop-slot.slots c.slot-item.result c.loop-slot.invariant c.loop-slot-test.true c.requires.kept
 
 pub loop-slot-preserved : goal.loop-slot-preserved
 loop-slot-preserved g c = told_more _ c.loop-slot.slot-index c.args.slots.now c.loop-slot.slots c.slot-item.result c.tell_slot.new.slot c.loop-slot.invariant c.loop-slot-test.true (c.tell_slot.ensures.told, c.tell_slot.ensures.kept)

@@ -1,5 +1,6 @@
-use Rattle.std.proofs.Common.{◌≡◌, ℕ, ◌+◌, ◌-◌, List, [], ◌∷◌, length, true, false, sym, subst, ap, ◌∙◌}
+use Rattle.std.proofs.Common.{◌≡◌, ℕ, ◌+◌, ◌-◌, List, [], ◌∷◌, length, true, false, sym, subst, ap, ◌∙◌, arith}
 use Rattle.std.specs.Prelude.{nat_lt, ◌==◌, ◌&&◌}
+use Rattle.std.proofs.lemmas.Bool.Decides.{nat_tests}
 use Rattle.points.specs.declared.point.Point.{Point}
 use Rattle.points.specs.Text.{utf16_of, replaced}
 use Rattle.points.specs.Place.{point_at, clipped_offset}
@@ -12,9 +13,25 @@ use Rattle.buffer.proofs.TextLemmas.{are_spots}
 use Rattle.buffer.proofs.EditLemmas.{same_answer, done_answer, is_nothing, edit_nothing, edit_too_long, edit_makes, too_long_is}
 use Rattle.buffer.proofs.buffer.Buffer.edit.Goals as goal
 
-pub make-requires-clause-places : goal.make-requires-clause-places
-make-requires-clause-places g c =
-    are_spots c.args.self.now.text _ _ c.spots.result.0 c.spots.result.1 c.spots.ensures.from c.spots.ensures.to c.spots.ensures.order c.spots.ensures.within
+pub make-requires-after_bounds : goal.make-requires-after_bounds
+make-requires-after_bounds g c = λ κs lives.
+    let kept = c.len-2.ensures.value in
+    let many = c.len-3.ensures in
+    let order = c.spots.ensures.order in
+    let within = c.spots.ensures.within in
+    let fits : nat_lt MAX_UNITS (c.len-2.result - (c.spots.result.1.offset - c.spots.result.0.offset) + c.len-3.result) ≡ false = sym c.is_too_long.ensures ∙ c.if-is_too_long.false in (
+      omega arith,
+      (
+        c.requires.count,
+        (
+          are_spots c.args.self.now.text _ _ c.spots.result.0 c.spots.result.1 c.spots.ensures.from c.spots.ensures.to c.spots.ensures.order c.spots.ensures.within,
+          (
+            grind (arith, nat_tests, fits, kept, many, order, within),
+            (c.requires.sound, (c.requires.told, c.requires.stands)),
+          ),
+        ),
+      ),
+    )
 
 pub returns-then-is_nothing-clause-ok : goal.returns-then-is_nothing-clause-ok
 returns-then-is_nothing-clause-ok g c =

@@ -1,4 +1,4 @@
-use Rattle.std.proofs.Common.{◌≡◌, ℕ, List, [], ◌∷◌, take, map, refl, ap, ◌∙◌}
+use Rattle.std.proofs.Common.{◌≡◌, ℕ, List, [], ◌∷◌, take, map, refl, ap, ◌∙◌, arith}
 use Rattle.points.specs.declared.mark.Splice.{Splice}
 use Rattle.points.specs.Place.{point_at}
 use Rattle.points.specs.MarkList.{all_moved}
@@ -8,9 +8,20 @@ use Rattle.buffer.proofs.TextLemmas.{marks_may_move}
 use Rattle.buffer.proofs.EditLemmas.{same_state}
 use Rattle.buffer.proofs.buffer.Buffer.make.Goals as goal
 
-pub edited-hits-requires-clause-within : goal.edited-hits-requires-clause-within
-edited-hits-requires-clause-within g c = marks_may_move c.args.self.now.text c.args.from.offset c.args.to.offset c.args.new_text c.args.self.now.followers.marks _ c.requires.places.order c.requires.places.within c.requires.sound.short c.requires.fits c.requires.sound.marks
-    c.in_ok-change.ensures.splice
+pub edited-hits-requires-after_bounds : goal.edited-hits-requires-after_bounds
+edited-hits-requires-after_bounds g c = λ κs lives.
+    let told = c.requires.told in
+    let count = c.requires.count in (
+      omega arith,
+      (
+        c.in_ok-change.ensures.start,
+        (
+          marks_may_move c.args.self.now.text c.args.from.offset c.args.to.offset c.args.new_text c.args.self.now.followers.marks _ c.requires.places.order c.requires.places.within c.requires.sound.short c.requires.fits c.requires.sound.marks
+              c.in_ok-change.ensures.splice,
+          (omega (arith, told, count), c.requires.stands),
+        ),
+      ),
+    )
 
 pub returns-clause-state : goal.returns-clause-state
 returns-clause-state g c =

@@ -28,15 +28,25 @@ put_in-requires-clause-stands g c =
 pub put_in-requires-clause-short : goal.put_in-requires-clause-short
 put_in-requires-clause-short g c = c.requires.sound.short
 
-pub undone-hits-requires-clause-within : goal.undone-hits-requires-clause-within
-undone-hits-requires-clause-within g c =
+pub undone-hits-requires-after_bounds : goal.undone-hits-requires-after_bounds
+undone-hits-requires-after_bounds g c = λ κs lives.
     let s : State = state_of c.args.self.now in
     let r : Replacement = c.in-Some.back in
     let first : slice_get s.past 0 ≡ Some (step_back r) = sym c.in_ok-back.ensures ∙ ap (λ (o : Option Replacement). option_map step_back o) c.in-Some.is in
     let leads = next_leads LeadsBack s.text s.past (step_back r) first c.requires.sound.past in
     let at = leads_at r.start r.old_text r.new_text s.text leads.0 leads.1 in
     let i : ℕ = unwrap_or (offset_of s.text r.start) 0 in
-    marks_may_move s.text i (i + length r.old_text) r.new_text s.marks _ (omega arith) at.within c.requires.sound.short at.fits c.requires.sound.marks c.in_ok-change.ensures.splice
+    let told = c.requires.told in
+    let count = c.requires.count in (
+      omega arith,
+      (
+        c.in_ok-change.ensures.start,
+        (
+          marks_may_move s.text i (i + length r.old_text) r.new_text s.marks _ (omega arith) at.within c.requires.sound.short at.fits c.requires.sound.marks c.in_ok-change.ensures.splice,
+          (omega (arith, told, count), c.requires.stands),
+        ),
+      ),
+    )
 
 pub returns-clause-ok : goal.returns-clause-ok
 returns-clause-ok g c =

@@ -23,7 +23,7 @@ returns-in-Ok-clause-ok g c =
     let kept = of_found _ c.args.id os f.seat c.requires.stands.kept f.first in
     same_answer s (unwatch c.args.id) _ _ _ (taken_off s c.args.id _ (found_watching c.args.id 0 os f.seat c.requires.stands.order f.first))
     (ap (λ b. state_of b) c.numbered.ensures.new ∙ ap (λ (ws : List Watching). counted (record s { watchers = ws })) (ap (λ l. watchings l) c.in-Ok.ensures.ok ∙ cut_watching c.args.id 0 os c.requires.stands.order is))
-    (rw (c.numbered.ensures.number, heard_all f.seat c.in-Ok.heard told kept.2.long) refl)
+    (rw (c.numbered.ensures.number, heard_all f.seat c.in-Ok.heard told kept.long) refl)
 
 pub returns-in-Ok-clause-stands : goal.returns-in-Ok-clause-stands
 returns-in-Ok-clause-stands g c = rw c.numbered.ensures.new c.in-Ok.ensures.stands

@@ -4,7 +4,7 @@ use Rattle.machine.specs.declared.reads.Read.{Read}
 use Rattle.machine.specs.declared.reads.Read.TheVariants as read
 use Rattle.machine.specs.Lawful.{is_pattern}
 use Rattle.buffer_cli.proofs.HitLemmas.{patterns_more, matched_done, first_taken}
-use Rattle.buffer_cli.proofs.reads.answer_read.Goals as goal
+use Rattle.buffer_cli.proofs.reads.answer_unsaved.Goals as goal
 
 pub returns-in-Pattern : goal.returns-in-Pattern
 returns-in-Pattern g c =
