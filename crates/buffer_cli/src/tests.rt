@@ -10,7 +10,7 @@ use outer::{
     Folder, LiteralMaker, MakeRefusal, Matcher, MemFolder, MemSink, MemSource, PatternMaker, Sink,
     Source, Spans, SureFolder, SureMaker, SureSink, SureSource,
 };
-use points::{MAX_WATCHERS, Point, Range};
+use points::{LAST, MAX_UNITS, MAX_WATCHERS, Point, Range, Units};
 use script::ScriptRule;
 use std::alloc::{AllocError, Global};
 use std::io;
@@ -331,43 +331,45 @@ fn runs_over_sure_twins(rt: HostRuntime) -> Result<(), Fail> {
     Ok(())
 }
 
-#[test]
-fn refuses_an_edit_past_the_limit(rt: HostRuntime) -> Result<(), Fail> {
-    let alloc = rt.alloc();
-    let letters = String::from_utf8(repeated(alloc, b'a', 1 << 24)?)
-        .ok()
-        .ok_or("letters")?;
+/// Whether a buffer over this text takes the letters, which fill it, and refuses one unit more as a whole.
+fn is_full_with(alloc: Global, text: &str, letters: &str) -> Result<bool, Fail> {
+    let units = Units::from_str(alloc, text)?;
+    if units.len() > MAX_UNITS {
+        return Ok(false);
+    }
+    let mut buffer: Buffer<ListWatcher> = Buffer::open(alloc, text)?;
     let origin = Point { row: 0, column: 0 };
     let start = Range::new(origin, origin);
-    let mut buffer: Buffer<ListWatcher> = Buffer::open(alloc, "")?;
     let fill = Command::Edit {
         range: start,
-        text: Text::from_str(alloc, letters.as_str())?,
+        text: Text::from_str(alloc, letters)?,
     };
     let first = buffer.play(alloc, &fill)?;
-    assert!(rt; matches!(first, Reply::Edited { at: 1, .. }));
-    assert!(rt; buffer.count < 9);
+    if buffer.count >= LAST || !matches!(first, Reply::Edited { at: 1, .. }) {
+        return Ok(false);
+    }
     let more = Command::Edit {
         range: start,
         text: Text::from_str(alloc, "b")?,
     };
     let second = buffer.play(alloc, &more)?;
-    assert!(rt;
-        matches!(
+    if buffer.count >= LAST
+        || !matches!(
             second,
             Reply::Refused {
                 at: 2,
                 no: CallRefusal::TooLong
             }
         )
-    );
-    assert!(rt; buffer.count < 9);
+    {
+        return Ok(false);
+    }
     let look = Command::Text {
         range: start,
         limit: 1,
     };
     let third = buffer.play(alloc, &look)?;
-    assert!(rt;
+    Ok(
         matches!(
             third,
             Reply::Text {
@@ -375,9 +377,17 @@ fn refuses_an_edit_past_the_limit(rt: HostRuntime) -> Result<(), Fail> {
                 units: 0,
                 ..
             }
-        )
-    );
-    assert_eq!(rt; buffer.to_text()?.as_str(), letters.as_str());
+        ) && buffer.to_text()?.as_str() == letters,
+    )
+}
+
+#[test]
+fn refuses_an_edit_past_the_limit(rt: HostRuntime) -> Result<(), Fail> {
+    let alloc = rt.alloc();
+    let letters = String::from_utf8(repeated(alloc, b'a', 1 << 24)?)
+        .ok()
+        .ok_or("letters")?;
+    assert!(rt; is_full_with(alloc, "", letters.as_str())?);
     Ok(())
 }
 
