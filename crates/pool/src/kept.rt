@@ -12,7 +12,7 @@ use std::sync::Wait;
 use workers::{Done, Task, run_task};
 
 // A task that is done. Where it is let go, its hand is retired.
-pub struct Kept<M: Matcher, K: Sink + Drop> {
+pub(crate) struct Kept<M: Matcher, K: Sink + Drop> {
     done: Done<M, K>,
 }
 
@@ -25,13 +25,13 @@ impl<M: Matcher, K: Sink + Drop> Model for Kept<M, K> {
 }
 
 impl<M: Matcher, K: Sink + Drop> Kept<M, K> {
-    pub fn new(done: Done<M, K>) -> Kept<M, K>
+    pub(crate) fn new(done: Done<M, K>) -> Kept<M, K>
         ensures { result ≡ done }
     {
         Kept { done }
     }
 
-    pub fn open(self) -> Done<M, K>
+    pub(crate) fn open(self) -> Done<M, K>
         ensures { result ≡ self }
     {
         let Kept { done } = self;
@@ -58,7 +58,7 @@ impl<M: Matcher, K: Sink + Drop> Drop for Kept<M, K> {
 }
 
 // Runs a task, and keeps the hand of its snapshot with what comes of it.
-pub fn run_for_another<B: PlainBuffer + Send, M: Matcher, K: Sink + Drop, G: Gate, R: Wait>(
+pub(crate) fn run_for_another<B: PlainBuffer + Send, M: Matcher, K: Sink + Drop, G: Gate, R: Wait>(
     rt: &R,
     alloc: Global,
     buffer: &SharedBuffer<B>,
@@ -72,7 +72,7 @@ pub fn run_for_another<B: PlainBuffer + Send, M: Matcher, K: Sink + Drop, G: Gat
 }
 
 // Runs a task, and hands out the hand of its snapshot.
-pub fn run_at_once<B: PlainBuffer + Send, M: Matcher, K: Sink + Drop, G: Gate, R: Wait>(
+pub(crate) fn run_at_once<B: PlainBuffer + Send, M: Matcher, K: Sink + Drop, G: Gate, R: Wait>(
     rt: &R,
     alloc: Global,
     buffer: &SharedBuffer<B>,

@@ -5,7 +5,7 @@ use workers::Task;
 
 // A task that was sent, which only contracts see, and whether the session ran it.
 #[derive(Drop)]
-pub struct Noted<M: Matcher, K: Sink> {
-    pub task: Shown<Task<M, K>>,
-    pub here: bool,
+pub(crate) struct Noted<M: Matcher, K: Sink> {
+    pub(crate) task: Shown<Task<M, K>>,
+    pub(crate) here: bool,
 }

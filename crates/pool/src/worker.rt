@@ -15,7 +15,7 @@ use std::sync::Wait;
 use workers::Sent;
 
 // Runs tasks of the queue, and waits for them, until the end is told and the queue is empty, or there is no room for more.
-pub fn run_worker<B: PlainBuffer + Send, M: Matcher, K: Sink + Drop, G: Gate, R: Wait>(
+pub(crate) fn run_worker<B: PlainBuffer + Send, M: Matcher, K: Sink + Drop, G: Gate, R: Wait>(
     rt: &R,
     alloc: Global,
     queue: &Handover<Sent<M, K>>,
@@ -47,7 +47,7 @@ pub fn run_worker<B: PlainBuffer + Send, M: Matcher, K: Sink + Drop, G: Gate, R:
 
 // Runs what is left in the queue, once all accounts are settled into this one. What came of the tasks that others ran is
 // there, and there is room for all that was put.
-pub fn drain<B: PlainBuffer + Send, M: Matcher, K: Sink + Drop, G: Gate, R: Wait>(
+pub(crate) fn drain<B: PlainBuffer + Send, M: Matcher, K: Sink + Drop, G: Gate, R: Wait>(
     rt: &R,
     alloc: Global,
     queue: &Handover<Sent<M, K>>,

@@ -15,11 +15,13 @@ use Rattle.machine.specs.Lawful.{patterns_in, patterns_of}
 use Rattle.machine.specs.Plain.{Kept, kept_text}
 use Rattle.turn_table.specs.Calls.{Has, Turned}
 use Rattle.turn_table.specs.Tokens.{IsDesk}
+use Rattle.shared_buffer.specs.declared.shared.Refusal.{Refusal}
+use Rattle.shared_buffer.specs.declared.shared.Refusal.TheVariants.{Spent}
 use Rattle.shared_buffer.specs.declared.shared.Squash.{Squash}
 use Rattle.shared_buffer.specs.declared.shared.Squash.TheVariants as squash
 use Rattle.shared_buffer.specs.Entries.{is_plain, squashed}
-use Rattle.shared_buffer.specs.Tokens.{Known, Opening, Called, IsEntered}
-use Rattle.sessions.specs.Running.{Doing, without_first, IsDone, IsTakenAs, IsAnswered, AreDone, IsRun}
+use Rattle.shared_buffer.specs.Tokens.{Known, Opening, Called, IsEntered, IsSpent}
+use Rattle.sessions.specs.Running.{Doing, without_first, IsDone, IsOut, IsTakenAs, IsAnswered, AreDone, IsRun}
 use Rattle.sessions.specs.Reading.{AreRight}
 use Rattle.sessions.proofs.ReadLemmas.{right_forms, right_asked, right_left}
 use Rattle.sessions.specs.Rules.{without_number, numbers_after, can_answer, can_answer_all}
@@ -137,6 +139,10 @@ module _ (o : Opening) where
     },
     right_left (kept_text k kept) told left reads answers others all,
   )
+
+  -- a call that found no number
+  pub spent_out : (why : Refusal) (old new : List Known) → Has IsDesk old → (why ≡ Spent → Turned (IsSpent o) old new) → why ≡ Spent → Has (IsOut o) new
+  spent_out why old new has spent is = let one = spent is has.0 has.1 in (one.0, one.1, record { informed = one.2.stays.informed; none = one.2.none })
 
   pub read_answered : (told left : List (Option Matches)) (c : Command) (r : Reply) (k : ℕ) (reads lent : List Read) (answers : List ReadAnswer) (kept : List Kept) (views : List Known) → c ≡ command.Read k reads → lent ≡ reads → r ≡ reply.Answered answers
       → AreRight (kept_text k kept) told left lent answers → Turned (IsAnswered o told left c r kept kept) views views

@@ -12,7 +12,7 @@ use Rattle.machine.specs.Answers.{Matches}
 use Rattle.machine.specs.Lawful.{answers_have_forms, asked_in, IsAsked, patterns_in}
 use Rattle.machine.specs.Plain.{Kept, kept_text}
 use Rattle.shared_buffer.specs.Entries.{is_plain}
-use Rattle.shared_buffer.specs.Tokens.{Known, Opening, Called, Stays, IsTaken, behind}
+use Rattle.shared_buffer.specs.Tokens.{Known, Opening, Called, Stays, IsInformed, IsTaken, behind}
 
 -- what a session knows from its desk, and the snapshots that it has, the last taken first
 pub record Doing : Type 0 where
@@ -25,9 +25,10 @@ without_first k [] = []
 without_first k (s ∷ ss) = if s.number == k then ss else s ∷ without_first k ss
 
 module _ (o : Opening) where
-  -- no number is left behind what was seen
-  abbrev pub IsOut : Known → Type 0
-  IsOut w = nat_lt (behind o w.seen).plain.count LAST ≡ false
+  -- what the desk has seen is a history, and no number is left behind it
+  pub record IsOut (w : Known) : Type 0 where
+    pub informed : IsInformed o w
+    pub none : nat_lt (behind o w.seen).plain.count LAST ≡ false
 
   -- a numbered call was played
   pub record IsPlay (c : Command) (r : Reply) (v w : Doing) : Type 0 where

@@ -130,3 +130,12 @@ module _ (o : Opening) where
 abbrev pub IsLawfulRun : ℕ → State → List Work → List (List Reply) → List ℕ → ℕ → Type 0
 IsLawfulRun version start ws replies text count = (script : Script) (opening : List ℕ) (t : Transcript) → start ≡ opened opening → version ≡ script.version → script.sessions ≡ map commands_of ws
     → t.version ≡ script.version → t.sessions ≡ replies → t.end.count ≡ count → t.end.text ≡ text_of text → IsLawful script opening (all_told ws) t
+
+-- A buffer that began at this state, with so many desks, ran out of numbers: a history that leaves none is known to one of its desks
+pub record RanOut (version : ℕ) (start : State) (desks : ℕ) : Type 0 where
+  pub opening : Opening
+  pub replies_as : opening.version ≡ version
+  pub starts : opening.start.plain ≡ start
+  pub callers : opening.desks ≡ desks
+  pub knows : Known
+  pub out : IsOut opening knows

@@ -1,8 +1,8 @@
 //! A buffer that sessions share from its beginning to its end.
-ghost use Rattle.std.specs.Prelude.{◌≤◌, map, vec_len, IfOk};
+ghost use Rattle.std.specs.Prelude.{◌≡◌, ◌≤◌, map, vec_len, IfOk, IfErr};
 ghost use Rattle.std.specs.List.{AllByRecursion};
 ghost use Rattle.points.specs.declared.limits.TheConstants.{MAX_HANDS};
-ghost use Rattle.sessions.specs.Seats.{CanBeAnswered, hands_wanted, IsLawfulRun, work_of};
+ghost use Rattle.sessions.specs.Seats.{CanBeAnswered, hands_wanted, IsLawfulRun, RanOut, work_of};
 
 use crate::plan::Plan;
 use crate::refusal::RunRefusal;
@@ -37,7 +37,8 @@ pub fn run_sessions<B: PlainBuffer + Send, M: Matcher, R: Threads + Wait + Sync>
     requires sessions { (1 ≤ vec_len plans) × (vec_len plans ≤ 64) }
     requires hands { hands_wanted plans.items ≤ MAX_HANDS }
     requires can { AllByRecursion CanBeAnswered plans.items }
-    ensures { IfOk result (λ r. IsLawfulRun B.version (B.state buffer) (map (work_of M.tells) plans.items) r.sessions.items r.text r.count) }
+    ensures lawful { IfOk result (λ r. IsLawfulRun B.version (B.state buffer) (map (work_of M.tells) plans.items) r.sessions.items r.text r.count) }
+    ensures spent { IfErr result (λ no. no ≡ RunRefusal.Spent → RanOut B.version (B.state buffer) (vec_len plans)) }
 {
     let desks = plans.len() as u32;
     let (started, hands) = SharedBuffer::start_with_hands(alloc, buffer, desks, MAX_HANDS as u32)?;

@@ -1,8 +1,9 @@
 //! Desks and hands are dealt to sessions, and gathered in again.
-ghost use Rattle.std.specs.Prelude.{◌≡◌, ◌≤◌, ◌+◌, ◌<◌, ◌∷◌, [], List, vec_len, length, IfOk, OnOk};
+ghost use Rattle.std.specs.Prelude.{◌≡◌, ◌≤◌, ◌+◌, ◌<◌, ◌∷◌, [], List, vec_len, length, IfOk, IfErr, OnOk};
 ghost use Rattle.std.specs.List.{AllByRecursion};
 ghost use Rattle.turn_table.specs.Calls.{Has};
-ghost use Rattle.shared_buffer.specs.Tokens.{IsDeskOf};
+ghost use Rattle.shared_buffer.specs.Tokens.{IsDeskOf, Known};
+ghost use Rattle.sessions.specs.Running.{IsOut};
 ghost use Rattle.sessions.specs.Seats.{AreSeated, hands_wanted, HasEnded, HaveRun, IsGatheredIn, Work};
 
 use crate::holding::SpareHand;
@@ -91,6 +92,7 @@ pub(crate) fn gather<B: PlainBuffer + Send, M: Matcher>(
     requires some { 0 < vec_len seats }
     requires ended { AllByRecursion (HasEnded M.tells buffer.now) seats.items }
     ensures desk { IfOk result (λ r. IsDeskOf buffer.now r.0) }
+    ensures spent { IfErr result (λ no. no ≡ RunRefusal.Spent → (v : Known) × IsOut buffer.now v) }
     ensures gathered { IfOk result (λ r. (ws : List Work) → length ws ≤ buffer.now.desks → HaveRun M.tells buffer.now 0 ws seats.items → Has (IsGatheredIn buffer.now ws r.1.items) r.0.views) }
 {
     let mut left = seats.into_iter();

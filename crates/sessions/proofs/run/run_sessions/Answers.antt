@@ -16,8 +16,8 @@ gather-requires-clause-some g c = λ κs within.
     let e = seated_len g.M.Matcher.tells c.in_ok-started.started.buffer _ _ _ c.in_ok-seats.ensures in
     omega (arith, e, c.requires.sessions.0, c.as_mut_slice.ensures.len, ap length c.as_mut_slice.ensures.value)
 
-pub returns-in-Ok : goal.returns-in-Ok
-returns-in-Ok g c = λ script opening t opens version sessions version_is replies_is count_is text_is.
+pub returns-in-Ok-clause-lawful : goal.returns-in-Ok-clause-lawful
+returns-in-Ok-clause-lawful g c = λ script opening t opens version sessions version_is replies_is count_is text_is.
     let buffer = c.in_ok-started.started.buffer in
     let start = c.in_ok-started.ensures.start in
     let new = dealt_new g.M.Matcher.tells buffer _ _ c.in_ok-started.ensures.desks in
