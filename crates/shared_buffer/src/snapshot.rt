@@ -1,4 +1,4 @@
-//! A snapshot. It stands in a file of its own, since what it keeps of its text is cited where the calls are.
+//! A snapshot, and what is known of its text.
 ghost use Rattle.points.specs.Text.{IsWellFormed};
 
 use crate::shared::Hand;
