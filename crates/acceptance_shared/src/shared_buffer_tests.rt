@@ -1,5 +1,6 @@
 //! Two desks that take turns, hands that come and go, and snapshots that keep their text.
-ghost use Rattle.std.specs.Prelude.{◌≡◌, ◌≤◌, [], ◌∷◌, IfOk, IfSome};
+ghost use Rattle.std.specs.Prelude.{◌≡◌, ◌≤◌, [], ◌∷◌, IfOk, IfSome, IsTrue};
+ghost use Rattle.points.specs.Text.{IsWellFormed};
 ghost use Rattle.layers.specs.Shelf.{top_layers};
 ghost use Rattle.chains.specs.Layered.{on_base};
 ghost use Rattle.shared_buffer.specs.Tokens.{IsDeskOf};
@@ -36,8 +37,12 @@ impl PlainBuffer for Counting {
         self.plain.count()
     }
 
-    // It has no layers that a reader could share, so the reader has a base of its own.
+    // It has no layers that a reader could share, so the reader has a base of its own. It doesn't know that its text is
+    // well-formed, so it looks.
     fn reader(&self, alloc: Global) -> Result<(Reader, u64), NoMemory> {
+        if !is_whole(alloc, self.plain.text()) {
+            return Err(NoMemory);
+        }
         let shelf = based(alloc, &self.plain)?;
         places_are_sound(&shelf);
         let reader = shelf.reader(shelf.top())?;
@@ -74,6 +79,15 @@ impl PlainBuffer for Counting {
     fn shape(&self, alloc: Global) -> Result<Shape, NoMemory> {
         based(alloc, &self.plain)?.shape()
     }
+}
+
+// Whether no surrogate lacks its partner.
+fn is_whole(alloc: Global, units: &[u16]) -> bool
+    ensures { IsTrue result → IsWellFormed units.now }
+{
+    points::laws::well_formed(units);
+    let read: Result<Result<_, _>, _> = String::from_utf16(alloc, units);
+    matches!(read, Ok(Ok(_)))
 }
 
 // A shelf with the text as its base.

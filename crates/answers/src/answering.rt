@@ -1,6 +1,8 @@
 //! Answers to reads, on the text that a reader shows.
 ghost use Rattle.std.specs.Prelude.{◌≡◌, ◌≤◌, ◌<◌, ◌+◌, ◌∷◌, [], ◌-◌, length, map, string_bytes, vec_len, vec_capacity, IfOk};
 ghost use Rattle.points.specs.Place.{span};
+ghost use Rattle.points.specs.Text.{mended};
+ghost use Rattle.search.specs.Answer.{answer_of, literal_answer};
 ghost use Rattle.machine.specs.Machine.{shown, between};
 ghost use Rattle.answers.specs.Asks.{ask, CanAsk, CanAskAll, IsAnswer, AreAnswers, all_refused, find as find_ask, pattern as pattern_ask, save as save_ask};
 
@@ -12,7 +14,7 @@ use line_text::splits_pair;
 use machine::Encoding;
 use outer::{Matcher, Sink};
 use points::{NoMemory, Range, Units};
-use search::{FindRefusal, find_literal, find_pattern};
+use search::{FindRefusal, Found, find_literal, find_pattern};
 use std::alloc::Global;
 
 /// Answers all reads in turn, into a list with room for the answers.
@@ -106,10 +108,27 @@ fn find<K: Sink>(alloc: Global, reader: &Reader, needle: String, limit: u32) -> 
     requires { 0 < length (string_bytes needle) }
     ensures { IsAnswer K.taken K.faults reader.now.text (find_ask (string_bytes needle) limit) result }
 {
-    match find_literal(alloc, reader, needle.as_str(), limit as usize) {
+    match find_text(alloc, reader, needle.as_str(), limit) {
         Ok(found) => Answer::Found(found),
+        Err(NoMemory) => Answer::NoMemory,
+    }
+}
+
+/// The number of hits of a text with some bytes, and the first `limit` of them. A surrogate that lacks its partner counts as
+/// U+FFFD.
+pub fn find_text(
+    alloc: Global,
+    reader: &Reader,
+    needle: &str,
+    limit: u32,
+) -> Result<Found, NoMemory>
+    requires { 0 < length needle.now }
+    ensures { IfOk result (λ found. answer_of found ≡ literal_answer (mended reader.now.text) limit needle.now) }
+{
+    match find_literal(alloc, reader, needle, limit as usize) {
+        Ok(found) => Ok(found),
         Err(FindRefusal::EmptyNeedle) => unreachable!(),
-        Err(FindRefusal::NoMemory) => Answer::NoMemory,
+        Err(FindRefusal::NoMemory) => Err(NoMemory),
     }
 }
 

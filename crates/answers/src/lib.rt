@@ -10,5 +10,5 @@ mod answering;
 mod read;
 
 pub use answer::Answer;
-pub use answering::{answer_all, read_text, refuse_all};
+pub use answering::{answer_all, find_text, read_text, refuse_all};
 pub use read::Read;

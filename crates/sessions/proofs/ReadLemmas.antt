@@ -1,16 +1,21 @@
 -- Reads of a text, answered in turn.
 use Rattle.std.proofs.Common.{◌≡◌, ℕ, zero, suc, ◌+◌, ◌<◌, ◌≤◌, Bool, true, false, cond, List, [], ◌∷◌, ◌++◌, length, drop, get_or, ◌&&◌, Option, None, Some, refl, sym, ◌∙◌, ap, subst, arith, append_assoc, append-nil}
-use Rattle.std.specs.Prelude.{count_by}
+use Rattle.std.proofs.Math.Logic.{∥∥₁_elim}
+use Rattle.std.specs.Coded.{Coded-set, coded_list, coded_ℕ}
+use Rattle.std.specs.Prelude.{count_by, Result, Ok, Err, IfOk}
 use Rattle.std.specs.List.{AllByRecursion, list_all}
 use Rattle.std.proofs.lemmas.Bool.{false≢true, and_parts}
 use Rattle.std.proofs.lemmas.List.Sums.{sum_by-cons}
+use Rattle.points.specs.declared.memory.NoMemory.{NoMemory}
+use Rattle.points.specs.Text.{IsWellFormed, mended}
+use Rattle.points.proofs.MendingLemmas.{mended-well_formed}
 use Rattle.machine.specs.declared.reads.Read.{Read}
 use Rattle.machine.specs.declared.reads.Read.TheVariants as read
 use Rattle.machine.specs.declared.reads.ReadAnswer.{ReadAnswer}
 use Rattle.machine.specs.Answers.{Matches, read_answer}
 use Rattle.machine.specs.Lawful.{is_pattern, answer_has_form, answers_have_forms, asked_in, told_after, AnswersAs, IsAsked}
 use Rattle.search.specs.declared.found.Found.{Found}
-use Rattle.search.specs.Answer.{FindsIn, answer_of}
+use Rattle.search.specs.Answer.{FindsIn, answer_of, literal_answer}
 use Rattle.sessions.specs.Rules.{is_own_read}
 use Rattle.sessions.specs.Reading.{answer_in, IsRight, AreRight}
 
@@ -19,6 +24,7 @@ use Rattle.sessions.specs.Reading.{answer_in, IsRight, AreRight}
 pub alone_right : (t : List ℕ) (told : List (Option Matches)) (r : Read) → is_own_read r ≡ true → is_pattern r ≡ false → IsRight t told told r (answer_in t r)
 alone_right t told read.Size own alone = record { form = refl; right = λ more. refl; behind = λ more. refl }
 alone_right t told (read.Text range limit) own alone = record { form = refl; right = λ more. refl; behind = λ more. refl }
+alone_right t told (read.Find needle limit) own alone = record { form = refl; right = λ more. refl; behind = λ more. refl }
 alone_right t told (read.Pattern pattern limit) own alone = absurd (false≢true (sym alone))
 alone_right t told r own alone = absurd (false≢true own)
 
@@ -32,6 +38,15 @@ pattern_right t told left m pattern limit f a next found is = subst (λ x. IsRig
   right = λ more. found_right t m pattern limit f found;
   behind = λ more. refl;
 }))
+
+-- a well-formed text is its own mending
+whole_mended : (t : List ℕ) → ∥ IsWellFormed t ∥₁ → mended t ≡ t
+whole_mended t whole = ∥∥₁_elim whole (Coded-set (coded_list coded_ℕ) (mended t) t) (mended-well_formed t)
+
+pub literal_done : (t : List ℕ) (limit : ℕ) (needle : List ℕ) (f : Found) (r : Result ReadAnswer NoMemory) → ∥ IsWellFormed t ∥₁ → answer_of f ≡ literal_answer (mended t) limit needle → IfOk r (λ a. a ≡ answer_of f)
+    → IfOk r (λ a. a ≡ literal_answer t limit needle)
+literal_done t limit needle f (Ok a) whole found is = is ∙ found ∙ ap (λ (x : List ℕ). literal_answer x limit needle) (whole_mended t whole)
+literal_done t limit needle f (Err e) whole found is = is
 
 -- ---- some reads
 

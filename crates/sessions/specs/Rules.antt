@@ -1,5 +1,5 @@
 -- Which commands a session can answer, with the hands that it has.
-use Rattle.std.specs.Prelude.{ℕ, ◌==◌, ◌&&◌, nat_lt, List, [], ◌∷◌, length, Bool, true, false, if◌then◌else◌}
+use Rattle.std.specs.Prelude.{ℕ, ◌==◌, ◌&&◌, nat_lt, List, [], ◌∷◌, length, Bool, true, false, not, if◌then◌else◌}
 use Rattle.std.specs.List.{list_any, list_all}
 use Rattle.machine.specs.declared.command.Command.{Command}
 use Rattle.machine.specs.declared.command.Command.TheVariants as command
@@ -7,10 +7,11 @@ use Rattle.machine.specs.declared.reads.Read.{Read}
 use Rattle.machine.specs.declared.reads.Read.TheVariants as read
 use Rattle.shared_buffer.specs.Entries.{is_plain}
 
--- the read wants nothing but the text, and a matcher where it is of a pattern: no search for a literal and no file
+-- the read wants nothing but the text, and a matcher where it is of a pattern: no file, and no search for nothing
 abbrev pub is_own_read : Read → Bool
 is_own_read read.Size = true
 is_own_read (read.Text range limit) = true
+is_own_read (read.Find needle limit) = not (length needle == 0)
 is_own_read (read.Pattern pattern limit) = true
 is_own_read _ = false
 

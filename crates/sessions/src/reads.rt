@@ -1,13 +1,14 @@
 //! Reads of a snapshot that want nothing but its text, and a matcher where they are of a pattern.
-ghost use Rattle.std.specs.Prelude.{◌≡◌, ◌≤◌, ◌∷◌, [], count_by, length, map, true, false, IfOk};
+ghost use Rattle.points.specs.Text.{IsWellFormed};
+ghost use Rattle.std.specs.Prelude.{◌≡◌, ◌<◌, ◌≤◌, ◌∷◌, [], count_by, length, map, true, false, IfOk};
 ghost use Rattle.std.specs.List.{list_all};
 ghost use Rattle.machine.specs.Lawful.{is_pattern};
 ghost use Rattle.search.specs.declared.found.Found.{Found};
-ghost use Rattle.search.specs.Answer.{FindsIn, answer_of};
+ghost use Rattle.search.specs.Answer.{FindsIn, answer_of, literal_answer};
 ghost use Rattle.sessions.specs.Rules.{is_own_read};
 ghost use Rattle.sessions.specs.Reading.{answer_in, IsRight, AreRight};
 
-use answers::read_text;
+use answers::{find_text, read_text};
 use layers::Reader;
 use machine::{Read, ReadAnswer, Text};
 use outer::Matcher;
@@ -22,6 +23,7 @@ pub(crate) fn answer_reads<M: Matcher>(
     matchers: &mut Vec<M>,
     reads: &[Read],
 ) -> Result<Vec<ReadAnswer>, NoMemory>
+    requires whole { ∥ IsWellFormed reader.now.text ∥₁ }
     requires own { list_all is_own_read reads.now ≡ true }
     requires enough { count_by is_pattern reads.now ≤ length matchers.old.items }
     ensures { IfOk result (λ answers. AreRight reader.now.text (map M.tells matchers.old.items) (map M.tells matchers.new.items) reads.now answers.items) }
@@ -40,6 +42,7 @@ fn answer_read<M: Matcher>(
     matchers: &mut Vec<M>,
     read: &Read,
 ) -> Result<ReadAnswer, NoMemory>
+    requires whole { ∥ IsWellFormed reader.now.text ∥₁ }
     requires own { is_own_read read.now ≡ true }
     requires enough { count_by is_pattern (read.now ∷ []) ≤ length matchers.old.items }
     ensures { IfOk result (λ answer. IsRight reader.now.text (map M.tells matchers.old.items) (map M.tells matchers.new.items) read.now answer) }
@@ -65,6 +68,7 @@ fn match_with<M: Matcher>(
 
 // Answers a read that takes no matcher.
 fn answer_alone(alloc: Global, reader: &Reader, read: &Read) -> Result<ReadAnswer, NoMemory>
+    requires whole { ∥ IsWellFormed reader.now.text ∥₁ }
     requires own { is_own_read read.now ≡ true }
     requires alone { is_pattern read.now ≡ false }
     ensures { IfOk result (λ answer. answer ≡ answer_in reader.now.text read.now) }
@@ -82,6 +86,17 @@ fn answer_alone(alloc: Global, reader: &Reader, read: &Read) -> Result<ReadAnswe
                 units,
             })
         }
+        Read::Find { needle, limit } => find(alloc, reader, needle.as_str(), *limit),
         _ => unreachable!(),
     }
+}
+
+// Finds a text with some bytes.
+fn find(alloc: Global, reader: &Reader, needle: &str, limit: u32) -> Result<ReadAnswer, NoMemory>
+    requires whole { ∥ IsWellFormed reader.now.text ∥₁ }
+    requires needle { 0 < length needle.now }
+    ensures { IfOk result (λ answer. answer ≡ literal_answer reader.now.text limit needle.now) }
+{
+    let found = find_text(alloc, reader, needle, limit)?;
+    found.to_answer(alloc)
 }

@@ -161,6 +161,7 @@ fn read<B: PlainBuffer + Send, M: Matcher>(
     requires enough { count_by is_pattern reads.now ≤ length matchers.old.items }
     ensures { IfOk result (λ answers. AreRight (kept_text number holding.now.kept) (map M.tells matchers.old.items) (map M.tells matchers.new.items) reads.now answers.items) }
 {
-    let reader = buffer.open_snapshot(holding.find(number))?;
+    let snapshot = holding.find(number);
+    let reader = buffer.open_snapshot(snapshot)?;
     answer_reads(alloc, &reader, matchers, reads)
 }

@@ -3,7 +3,7 @@ use Rattle.std.proofs.Common.{◌≡◌, ℕ, ◌<◌, Bool, true, false, cond, 
 use Rattle.std.specs.Prelude.{filter}
 use Rattle.std.proofs.lemmas.Bool.Decides.{nat_tests}
 use Rattle.std.proofs.lemmas.List.{append-nil}
-use Rattle.points.specs.declared.limits.TheConstants.{LAST, MAX_HANDS}
+use Rattle.points.specs.declared.limits.TheConstants.{LAST}
 use Rattle.atomic_table.specs.declared.badge.Badge.{Badge}
 use Rattle.machine.specs.declared.command.Command.{Command}
 use Rattle.machine.specs.declared.reply.Reply.{Reply}
@@ -13,11 +13,11 @@ use Rattle.turn_table.specs.History.{entry}
 use Rattle.turn_table.specs.declared.view.Role.{Role}
 use Rattle.turn_table.specs.declared.view.Role.TheVariants.{Desk, Hand, Deals, Nothing}
 use Rattle.turn_table.specs.Views.{view, hand, caller, added, stands_for, Mine}
-use Rattle.turn_table.specs.Tokens.{is_own, IsDesk}
+use Rattle.turn_table.specs.Tokens.{is_own}
 use Rattle.turn_table.specs.Given.{one_view}
-use Rattle.turn_table.specs.Calls.{Has, Turned, Took, Looked}
+use Rattle.turn_table.specs.Calls.{Turned, Took, Looked}
 use Rattle.turn_table.proofs.HistoryLemmas.{state_after-append}
-use Rattle.turn_table.proofs.DeskLemmas.{had, turned_as}
+use Rattle.turn_table.proofs.DeskLemmas.{turned_as}
 use Rattle.turn_table.proofs.GivenLemmas.{has_hand_in}
 use Rattle.shared_buffer.specs.Entries.{Shared, Entry, called, handed, taken, finished, is_numbered, said, Meets, free_of, free_number}
 use Rattle.shared_buffer.specs.Tokens.{Opening, Known, Line, rules, behind, own_calls, IsSeatOf, Called, Stays, IsSpent, IsHanded, IsFull, IsEntered, IsTaken, IsFinished}

@@ -1,5 +1,5 @@
 -- What the callers of a shared buffer know, and what their calls do to it.
-use Rattle.std.specs.Prelude.{◌≡◌, ℕ, ◌<◌, true, false, nat_lt, List, [], ◌∷◌, ◌++◌, length, slice_index_or, filter, Option, Some, None}
+use Rattle.std.specs.Prelude.{◌≡◌, ℕ, ◌<◌, true, false, nat_lt, List, [], ◌∷◌, ◌++◌, length, slice_index_or, filter, Some, None}
 use mathlib.Core.List.{IsPrefix}
 use Rattle.points.specs.declared.limits.TheConstants.{LAST}
 use Rattle.atomic_table.specs.Seated.{TableId}
@@ -11,7 +11,7 @@ use Rattle.turn_table.specs.declared.view.Entry as table
 use Rattle.turn_table.specs.declared.view.View.{View}
 use Rattle.turn_table.specs.Meaning.{Meaning, MayFollow}
 use Rattle.turn_table.specs.History.{entry, state_after, IsLegal, AreCalled}
-use Rattle.turn_table.specs.Views.{view, hand, caller, added, Mine}
+use Rattle.turn_table.specs.Views.{caller, added, Mine}
 use Rattle.turn_table.specs.Tokens.{mine, is_own, numbered_calls, StandsForAll, Knows, IsDesk, IsHand}
 use Rattle.turn_table.specs.Calls.{Has}
 use Rattle.shared_buffer.specs.declared.shared.Hand.{Hand}

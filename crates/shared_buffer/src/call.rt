@@ -1,5 +1,6 @@
 //! The calls under the lock, and their replies.
 ghost use Rattle.std.specs.Prelude.{◌≡◌, true};
+ghost use Rattle.points.specs.Text.{IsWellFormed};
 ghost use Rattle.shared_buffer.specs.Entries.{is_plain};
 
 use crate::told::{Shown, Told};
@@ -34,6 +35,14 @@ pub enum Call {
     Measure,
 }
 
+/// A reader of a text, and the text's version. No surrogate of the text lacks its partner.
+#[derive(Drop)]
+pub struct TakenText {
+    pub reader: Reader,
+    pub version: u64,
+    pub ghost whole: { ∥ IsWellFormed reader.text ∥₁ },
+}
+
 /// What the buffer answers under the lock.
 #[derive(Drop)]
 pub enum Reply {
@@ -46,7 +55,7 @@ pub enum Reply {
     /// All hands are out.
     NoHand,
     /// A reader of the text, and the text's version.
-    Taken(Reader, u64),
+    Taken(TakenText),
     /// The whole text, and how many calls were numbered.
     Finished(Units, u64),
     /// How many layers there are, after they were put together.

@@ -4,7 +4,7 @@ ghost use Rattle.points.specs.declared.limits.TheConstants.{MAX_HANDS};
 ghost use Rattle.shared_buffer.specs.Entries.{Shared, is_plain, said, after_called, with_out, AreLayers};
 ghost use Rattle.shared_buffer.specs.Calls.{reply_in, given, showing, ending, depth_in, sizes_in};
 
-use crate::call::{Call, Reply};
+use crate::call::{Call, Reply, TakenText};
 use crate::plain::PlainBuffer;
 use crate::told::{Shown, Told};
 use machine::Command;
@@ -83,7 +83,7 @@ impl<B: PlainBuffer> Held<B> {
         if (number as usize) < MAX_HANDS {
             self.buffer.hold(number);
         }
-        Ok(Reply::Taken(reader, version))
+        Ok(Reply::Taken(TakenText { reader, version }))
     }
 
     // The whole text and the count.

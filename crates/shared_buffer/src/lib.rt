@@ -10,12 +10,12 @@ mod call;
 mod held;
 mod plain;
 mod shared;
+mod snapshot;
 mod told;
 
-pub use call::{Call, Numbered, Reply};
+pub use call::{Call, Numbered, Reply, TakenText};
 pub use held::Held;
 pub use plain::PlainBuffer;
-pub use shared::{
-    Desk, Finished, Hand, HandRefusal, Refusal, SharedBuffer, Snapshot, Squash, Started,
-};
+pub use shared::{Desk, Finished, Hand, HandRefusal, Refusal, SharedBuffer, Squash, Started};
+pub use snapshot::Snapshot;
 pub use told::{Shown, Told};

@@ -1,6 +1,7 @@
 //! What can be shared.
 ghost use Rattle.std.specs.Prelude.{◌≡◌, ◌<◌, ◌≤◌, ℕ, true, List, [], length, IfOk, OnErr};
 ghost use Rattle.points.specs.declared.limits.TheConstants.{MAX_HANDS};
+ghost use Rattle.points.specs.Text.{IsWellFormed};
 ghost use Rattle.chains.specs.declared.size.LayerSize.{LayerSize};
 ghost use Rattle.machine.specs.Machine.{State};
 ghost use Rattle.machine.specs.Answers.{call_of};
@@ -30,10 +31,11 @@ pub trait PlainBuffer: Drop {
         ensures { result ≡ (state self.now).count };
 
     /// A reader of the text as it is, which later calls don't change, and the number of the last call that changed the
-    /// text.
+    /// text. No surrogate of the text lacks its partner.
     fn reader(&self, alloc: Global) -> Result<(Reader, u64), NoMemory>
         ensures text { IfOk result (λ r. r.0.text ≡ (state self.now).text) }
-        ensures version { IfOk result (λ r. r.1 ≡ (state self.now).version) };
+        ensures version { IfOk result (λ r. r.1 ≡ (state self.now).version) }
+        ensures whole { IfOk result (λ r. IsFit self.now → IsWellFormed r.0.text) };
 
     /// The units of the whole text, copied.
     fn units(&self, alloc: Global) -> Result<Units, NoMemory>

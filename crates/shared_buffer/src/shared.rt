@@ -10,9 +10,10 @@ ghost use Rattle.turn_table.specs.Given.{seat_in};
 ghost use Rattle.shared_buffer.specs.Calls.{reply_in, hand_number, given, ending, showing, depth_in, sizes_in};
 ghost use Rattle.shared_buffer.specs.Tokens.{IsDeskOf, IsSeatOf, Called, Stays, IsSpent, IsHanded, IsFull, IsEntered, IsTaken, IsFinished, AreHands, Known, rules};
 
-use crate::call::{Call, Numbered, Reply};
+use crate::call::{Call, Numbered, Reply, TakenText};
 use crate::held::Held;
 use crate::plain::PlainBuffer;
+use crate::snapshot::Snapshot;
 use crate::told::{Shown, Told};
 use layers::{Reader, Shape};
 use machine::Command;
@@ -36,26 +37,6 @@ impl Hand {
     pub fn retire(self) {
         let Hand { seat, number: _ } = self;
         drop(seat);
-    }
-}
-
-/// A snapshot: a text and its version as a take saw them, and the hand that it uses. It must be released, or retired.
-pub struct Snapshot {
-    pub hand: Hand,
-    pub reader: Reader,
-    pub version: u64,
-}
-
-impl Snapshot {
-    /// Spends the snapshot without a call. Its hand stays out for good.
-    pub fn retire(self) {
-        let Snapshot {
-            hand,
-            reader,
-            version: _,
-        } = self;
-        drop(reader);
-        hand.retire();
     }
 }
 
@@ -234,7 +215,7 @@ impl<B: PlainBuffer + Send> SharedBuffer<B> {
     {
         match self.table.with(rt, desk, Call::Take(hand.number)) {
             Ok(reply) => match shown(reply) {
-                Some((reader, version)) => Ok(Snapshot {
+                Some(TakenText { reader, version }) => Ok(Snapshot {
                     hand,
                     reader,
                     version,
@@ -329,11 +310,11 @@ impl<B: PlainBuffer + Send> SharedBuffer<B> {
 }
 
 // The reader in a reply, where it has one, with the version.
-fn shown(reply: Reply) -> Option<(Reader, u64)>
-    ensures { IfSome result (λ r. (r.0.text, r.1) ≡ showing reply) }
+fn shown(reply: Reply) -> Option<TakenText>
+    ensures { IfSome result (λ t. (t.reader.text, t.version) ≡ showing reply) }
 {
     match reply {
-        Reply::Taken(reader, version) => Some((reader, version)),
+        Reply::Taken(text) => Some(text),
         _ => None,
     }
 }

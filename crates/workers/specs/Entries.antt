@@ -1,7 +1,7 @@
 -- Tasks that are done.
 use Rattle.std.specs.Prelude.{◌≡◌, ℕ, List, map, Option, Some, None}
 use Rattle.outer.specs.Matcher.{ToldHits}
-use Rattle.shared_buffer.specs.declared.shared.Snapshot.{Snapshot}
+use Rattle.shared_buffer.specs.declared.snapshot.Snapshot.{Snapshot}
 use Rattle.answers.specs.declared.answer.Answer.{Answer}
 use Rattle.answers.specs.Asks.{Ask, ask, AreAnswers, all_refused}
 use Rattle.workers.specs.declared.done.Done.{Done}
