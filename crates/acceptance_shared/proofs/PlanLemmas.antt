@@ -1,15 +1,12 @@
 -- A session that types.
 use Rattle.std.proofs.Common.{◌≡◌, ℕ, Bool, List, [], ◌∷◌, ◌++◌, ◌&&◌, true, refl, arith}
-use Rattle.std.specs.Prelude.{count_by}
-use Rattle.std.specs.List.{list_all}
 use Rattle.std.proofs.lemmas.Bool.{and_parts}
 use Rattle.std.proofs.lemmas.List.Sums.{sum_by-append}
 use Rattle.points.specs.declared.range.Range.{Range}
 use Rattle.machine.specs.declared.command.Command.{Command}
 use Rattle.machine.specs.declared.command.Command.TheVariants as command
-use Rattle.machine.specs.declared.reads.Read.{Read}
-use Rattle.machine.specs.Lawful.{is_pattern, patterns_in, patterns_of}
-use Rattle.sessions.specs.Rules.{is_own_read, numbers_after, can_answer, can_answer_all}
+use Rattle.machine.specs.Lawful.{patterns_in, patterns_of}
+use Rattle.sessions.specs.Rules.{numbers_after, can_answer, can_answer_all}
 
 both_true : (a b : Bool) → a ≡ true → b ≡ true → (a && b) ≡ true
 both_true a b p q = rw (p, q) refl
@@ -24,13 +21,3 @@ can_edit hands live (c ∷ cs) range text can =
 -- and reads no pattern
 pub none_edit : (cs : List Command) (range : Range) (text : List ℕ) → patterns_of cs ≡ 0 → patterns_of (cs ++ command.Edit range text ∷ []) ≡ 0
 none_edit cs range text none = omega (arith, sum_by-append patterns_in cs (command.Edit range text ∷ []), none)
-
--- an edit, a take and a send of the snapshot
-abbrev pub sends : Range → List ℕ → List Read → List Command
-sends range text reads = command.Edit range text ∷ command.Take 7 ∷ command.Send 7 reads ∷ []
-
-pub can_send : (range : Range) (text : List ℕ) (reads : List Read) → list_all is_own_read reads ≡ true → can_answer_all 1 [] (sends range text reads) ≡ true
-can_send range text reads own = rw own refl
-
-pub none_send : (range : Range) (text : List ℕ) (reads : List Read) → count_by is_pattern reads ≡ 0 → patterns_of (sends range text reads) ≡ 0
-none_send range text reads none = rw none refl
