@@ -7,6 +7,9 @@
 mod kept;
 mod noted;
 mod port;
+mod session;
+mod stage;
 mod worker;
 
 pub use port::Port;
+pub use session::Session;
