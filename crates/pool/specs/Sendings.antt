@@ -1,5 +1,5 @@
 -- What sessions send, and what is done of it.
-use Rattle.std.specs.Prelude.{◌≡◌, ℕ, ◌<◌, ◌≤◌, ◌++◌, List, [], ◌∷◌, length, Bool, true, false, Option, is_none, IfSome, ⊤}
+use Rattle.std.specs.Prelude.{◌≡◌, ℕ, ◌+◌, ◌*◌, ◌^◌, ◌<◌, ◌≤◌, ◌++◌, List, [], ◌∷◌, length, Bool, true, false, Option, is_none, IfSome, ⊤}
 use Rattle.std.specs.List.{AllByRecursion}
 use Rattle.atomic_table.specs.Seated.{TableId}
 use Rattle.crossbeam_queue.specs.Fifo.{Held}
@@ -52,6 +52,10 @@ module _ {M K : Type 0} where
 
   abbrev pub session_of : Sending M K → ℕ
   session_of s = s.task.session
+
+  -- the order of tasks: by session, and in a session by number
+  abbrev pub order : Sending M K → ℕ
+  order s = session_of s * 2 ^ 32 + number_of s
 
   -- what a session with this number sent: at most so many tasks, all under its number, and their own numbers rise
   pub record AreOfSession (session most : ℕ) (sent : List (Sending M K)) : Type 0 where

@@ -19,9 +19,27 @@ module _ {S T M K : Type 0} where
   abbrev pub IsStage : (Ready S M K → Type 0) → Stage S T M K → Type 0
   IsStage P s = MatchOption s.ready ⊥ P
 
-  -- it was run, and this is true of what it began with and what it left
-  abbrev pub IsPlayed : (Ready S M K → Left T M K → Type 0) → Stage S T M K → Stage S T M K → Type 0
-  IsPlayed P s t = MatchOption s.ready ⊥ (λ r. MatchOption t.left ⊥ (P r))
+  -- it was run, and this is true of its session and of what it left
+  abbrev pub IsPlayed : (Option S → Left T M K → Type 0) → Option S → Stage S T M K → Type 0
+  IsPlayed P s t = MatchOption t.left ⊥ (P s)
+
+  -- the same of a thread that was still to be run before
+  abbrev pub WasPlayed : (Option S → Left T M K → Type 0) → Stage S T M K → Stage S T M K → Type 0
+  WasPlayed P before after = MatchOption before.ready ⊥ (λ r. IsPlayed P r.session after)
+
+  -- the same of many threads, with the sessions of these
+  abbrev pub AllPlayed : (Option S → Left T M K → Type 0) → List (Option S) → List (Stage S T M K) → Type 0
+  AllPlayed P [] [] = Unit {0}
+  AllPlayed P [] (t ∷ ts) = ⊥
+  AllPlayed P (s ∷ ss) [] = ⊥
+  AllPlayed P (s ∷ ss) (t ∷ ts) = IsPlayed P s t × AllPlayed P ss ts
+
+  -- the sessions of threads that are to be run
+  abbrev pub AreOf : List (Option S) → List (Stage S T M K) → Type 0
+  AreOf [] [] = Unit {0}
+  AreOf [] (t ∷ ts) = ⊥
+  AreOf (s ∷ ss) [] = ⊥
+  AreOf (s ∷ ss) (t ∷ ts) = IsStage (λ r. r.session ≡ s) t × AreOf ss ts
 
 module _ {S M K Q A : Type 0} (limit : S → ℕ) (is_of : S → Opening → Type 0) (q : Slotted (Option (Request M K)) (Doing (Request M K) (Share (Request M K))) Q A) (o : Opening) where
   -- nothing was done yet, and there is room for all that its session may send
@@ -53,6 +71,6 @@ module _ {S T M K : Type 0} (number limit : S → ℕ) (leaves : S → Opening �
 
 module _ {S T M K Q A : Type 0} (tells : M → Option ToldHits) (taken : K → Option (List ℕ)) (faults : K → ℕ) (number limit : S → ℕ) (leaves : S → Opening → T → Type 0) (sent : T → List (Sending M K)) (q : Slotted (Option (Request M K)) (Doing (Request M K) (Share (Request M K))) Q A) (o : Opening) where
   -- what a thread left, and of which session
-  pub record WasRun (r : Ready S M K) (l : Left T M K) : Type 0 where
+  pub record WasRun (session : Option S) (l : Left T M K) : Type 0 where
     pub left : HasLeft tells taken faults sent q l
-    pub run : MatchOption r.session (l.out ≡ None) (λ s. MatchOption l.out ⊥ (HasRun number limit leaves sent o s))
+    pub run : MatchOption session (l.out ≡ None) (λ s. MatchOption l.out ⊥ (HasRun number limit leaves sent o s))

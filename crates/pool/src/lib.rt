@@ -6,6 +6,7 @@
 
 mod kept;
 mod noted;
+mod order;
 mod port;
 mod session;
 mod stage;

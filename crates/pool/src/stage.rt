@@ -1,9 +1,10 @@
 //! What one thread is to do, and what it leaves.
-ghost use Rattle.std.specs.Prelude.{◌≡◌, [], Some, None, MatchOption};
+ghost use Rattle.std.specs.Prelude.{◌≡◌, [], Some, None, MatchOption, length};
+ghost use Rattle.std.specs.List.{AllByRecursion};
 ghost use Rattle.crossbeam_queue.specs.Passes.{view};
 ghost use Rattle.handover.specs.Accounts.{share};
 ghost use Rattle.pool.specs.Shifts.{IsAccountOf, HasHelped};
-ghost use Rattle.pool.specs.Stages.{CanRun, HasLeft, HasRun, WasRun, IsStage, IsPlayed};
+ghost use Rattle.pool.specs.Stages.{CanRun, HasLeft, HasRun, WasRun, IsStage, AreOf, AllPlayed, WasPlayed};
 
 use crate::kept::Kept;
 use crate::noted::Noted;
@@ -17,6 +18,7 @@ use shared_buffer::{PlainBuffer, SharedBuffer};
 use std::alloc::Global;
 use std::sync::Wait;
 use std::sync::atomic::{AtomicUsize, Ordering};
+use std::thread::{Threads, for_each_mut};
 use workers::Sent;
 
 // What all threads share: the queue, the buffer, the gate, how many sessions are still under way, and whether there are
@@ -58,6 +60,29 @@ pub(crate) struct Stage<S, T, M: Matcher, K: Sink + Drop> {
     pub(crate) left: Option<Left<T, M, K>>,
 }
 
+// Runs what each thread is to do, each in a thread of its own. Where no thread can be made, this one runs the last first.
+pub(crate) fn run_stages<
+    S: Session<B, M, K, G>,
+    B: PlainBuffer + Send,
+    M: Matcher,
+    K: Sink + Drop + Send,
+    G: Gate,
+    R: Threads + Wait + Sync,
+>(rt: &R, pool: &Pool<'_, B, M, K, G>, stages: &mut [Stage<S, S::Out, M, K>])
+    requires can { AllByRecursion (IsStage (CanRun S.limit S.IsOf pool.now.queue.now.ring pool.now.buffer.now)) stages.old }
+    ensures len { length stages.new ≡ length stages.old }
+    ensures run { (ss : _) → AreOf ss stages.old → AllPlayed (WasRun M.tells K.taken K.faults S.number S.limit S.Leaves S.sent pool.now.queue.now.ring pool.now.buffer.now) ss stages.new }
+{
+    if stages.is_empty() {
+        return;
+    }
+    let run = |_at: usize, stage: &mut Stage<S, S::Out, M, K>|
+        requires { IsStage (CanRun S.limit S.IsOf pool.now.queue.now.ring pool.now.buffer.now) stage.now }
+        ensures { WasPlayed (WasRun M.tells K.taken K.faults S.number S.limit S.Leaves S.sent pool.entry.now.queue.now.ring pool.entry.now.buffer.now) stage.entry.now stage.exit.now }
+    { run_stage(rt, pool, stage) };
+    for_each_mut(rt, stages, stages.len(), &run);
+}
+
 // Runs what a thread is to do.
 pub(crate) fn run_stage<
     S: Session<B, M, K, G>,
@@ -68,7 +93,7 @@ pub(crate) fn run_stage<
     R: Wait,
 >(rt: &R, pool: &Pool<'_, B, M, K, G>, stage: &mut Stage<S, S::Out, M, K>)
     requires { IsStage (CanRun S.limit S.IsOf pool.now.queue.now.ring pool.now.buffer.now) stage.old }
-    ensures { IsPlayed (WasRun M.tells K.taken K.faults S.number S.limit S.Leaves S.sent pool.now.queue.now.ring pool.now.buffer.now) stage.old stage.new }
+    ensures { WasPlayed (WasRun M.tells K.taken K.faults S.number S.limit S.Leaves S.sent pool.now.queue.now.ring pool.now.buffer.now) stage.old stage.new }
 {
     let Some(ready) = stage.ready.take() else {
         unreachable!()
@@ -86,7 +111,7 @@ fn run_ready<
     R: Wait,
 >(rt: &R, pool: &Pool<'_, B, M, K, G>, ready: Ready<S, M, K>) -> Left<S::Out, M, K>
     requires { CanRun S.limit S.IsOf pool.now.queue.now.ring pool.now.buffer.now ready }
-    ensures { WasRun M.tells K.taken K.faults S.number S.limit S.Leaves S.sent pool.now.queue.now.ring pool.now.buffer.now ready result }
+    ensures { WasRun M.tells K.taken K.faults S.number S.limit S.Leaves S.sent pool.now.queue.now.ring pool.now.buffer.now ready.session result }
 {
     let Ready {
         account,
