@@ -18,8 +18,8 @@ use std::snapshot::Snapshot as Shown;
 use std::sync::Wait;
 use workers::{Sent, Task};
 
-/// Through which a session sends its tasks. Contracts see what it sent, in order; how many tasks it may send; and whether
-/// there are workers.
+/// Through which a session sends its tasks. Contracts see what it sent, in order; how many tasks it may send; whether
+/// there are workers; and which queue it puts to.
 #[derive(Drop)]
 pub struct Port<'a, B: PlainBuffer + Send, M: Matcher, K: Sink + Drop, G: Gate> {
     alloc: Global,
